@@ -1,0 +1,6 @@
+pub mod Legs
+pub mod Rows
+pub mod Lent
+pub mod Names
+pub mod NameFields
+pub mod Numbers

@@ -1,0 +1,64 @@
+ghost use Rattle.std.specs.Prelude.{◌≡◌};
+ghost use Rattle.tri_base.specs.Legs.{left_of, right_of, leg_part};
+
+/// One of the three main processors.
+#[derive(Clone, Copy, Debug, PartialEq, Eq)]
+pub enum Leg {
+    A,
+    B,
+    C,
+}
+
+/// A side of a leg, towards one of its neighbours.
+#[derive(Clone, Copy, Debug, PartialEq, Eq)]
+pub enum Side {
+    Left,
+    Right,
+}
+
+/// One value for each leg.
+#[derive(Clone, Copy, Debug, PartialEq, Eq, Drop)]
+pub struct Triple<T> {
+    pub a: T,
+    pub b: T,
+    pub c: T,
+}
+
+impl Leg {
+    /// The left neighbour. What a leg puts on its left, that neighbour takes from its right.
+    pub fn left(self) -> Leg
+        ensures neighbour { result ≡ left_of self }
+        ensures back { right_of result ≡ self }
+    {
+        match self {
+            Leg::A => Leg::C,
+            Leg::B => Leg::A,
+            Leg::C => Leg::B,
+        }
+    }
+
+    /// The right neighbour. What a leg puts on its right, that neighbour takes from its left.
+    pub fn right(self) -> Leg
+        ensures neighbour { result ≡ right_of self }
+        ensures back { left_of result ≡ self }
+    {
+        match self {
+            Leg::A => Leg::B,
+            Leg::B => Leg::C,
+            Leg::C => Leg::A,
+        }
+    }
+}
+
+impl<T> Triple<T> {
+    /// The value of a leg.
+    pub fn at(&self, leg: Leg) -> &T
+        ensures { result.now ≡ leg_part self.now leg }
+    {
+        match leg {
+            Leg::A => &self.a,
+            Leg::B => &self.b,
+            Leg::C => &self.c,
+        }
+    }
+}

@@ -1,0 +1,24 @@
+//! The words that every other crate speaks: legs, lists with room, names, numbers, points and faults.
+#![tactic(auto)]
+
+mod faults;
+mod judged;
+mod leg;
+mod memory;
+mod name;
+mod number;
+mod point;
+mod text;
+mod voted;
+mod words;
+
+pub use faults::{LexCause, TypeCause, TypeFault};
+pub use judged::Judged;
+pub use leg::{Leg, Side, Triple};
+pub use memory::NoMemory;
+pub use name::Name;
+pub use number::{push_number, read_number};
+pub use point::{Point, PointKind};
+pub use text::{Text, push_bytes};
+pub use voted::Voted;
+pub use words::{Words, push_word};
