@@ -4,3 +4,5 @@ pub mod Lent
 pub mod Names
 pub mod NameFields
 pub mod Numbers
+pub mod Noted
+pub mod TouchedFields

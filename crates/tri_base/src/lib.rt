@@ -9,6 +9,7 @@ mod name;
 mod number;
 mod point;
 mod text;
+mod touched;
 mod voted;
 mod words;
 
@@ -20,5 +21,6 @@ pub use name::Name;
 pub use number::{push_number, read_number};
 pub use point::{Point, PointKind};
 pub use text::{Text, push_bytes};
+pub use touched::Touched;
 pub use voted::Voted;
 pub use words::{Words, push_word};
