@@ -2,7 +2,8 @@
 use Rattle.std.proofs.Common.{◌≡◌, ◌≢◌, ℕ, ℤ, ◌≤◌, ◌<◌, ◌+◌, List, [], ◌∷◌, ◌++◌, length, get_or, replicate, refl, sym, ap, ◌∙◌, subst, arith, Option, Some, None, pos, suc, zero, ◌==◌, add-one, get_or-set_same, get_or-set_other, is_some, if◌then◌else◌}
 use mathlib.Core.Logic.{◌⊎◌, inl, inr}
 use Rattle.std.proofs.lemmas.Bool.{cond-true, cond-false, eq-eqb, ne_eqb, cases_lt, cases_eq}
-use Rattle.std.proofs.lemmas.List.{get_or_append_left, get_or_push, length_push, length-set, length-replicate, get_or-replicate, get_or_past, get_or_read_under}
+use Rattle.std.proofs.lemmas.List.{get_or_append_left, get_or_push, length_push, length-set, length-replicate, get_or-replicate, get_or_past, get_or_read_under, get_or_default}
+use Rattle.std.specs.List.{All, AllPairs}
 use Rattle.std.proofs.Math.ListN.{set}
 use Rattle.tri_base.specs.Noted.{number_before, noted}
 use Rattle.tri_base.specs.TouchedFields.{address_at, unknowing, Tied}
@@ -175,3 +176,14 @@ noted-first a before pairs e = ap (λ (o : Option ℤ). if is_some o then pairs 
 
 pub noted-again : (a : ℕ) (before old : ℤ) (pairs : List Pair) → number_before a pairs ≡ Some old → noted a before pairs ≡ pairs
 noted-again a before old pairs e = ap (λ (o : Option ℤ). if is_some o then pairs else pairs ++ (a, before) ∷ []) e
+
+-- no two pairs have one address, and each is one of the memory's
+pub distinct : (pairs : List Pair) (places : List ℕ) → Tied pairs places → AllPairs (λ p q. p.0 ≢ q.0) pairs
+distinct pairs places h i j d below l e =
+    let at : address_at pairs i ≡ address_at pairs j =
+    ap (λ (p : Pair). p.0) (get_or_default pairs i none_yet d (omega arith)) ∙ (e ∙ ap (λ (p : Pair). p.0) (get_or_default pairs j d none_yet l)) in
+    let same : i + 1 ≡ j + 1 = sym (h.known i (omega arith)) ∙ (ap (λ (x : ℕ). get_or places x 0) at ∙ h.known j l) in
+    absurd (omega arith)
+
+pub all_within : (pairs : List Pair) (places : List ℕ) → Tied pairs places → All (λ p. p.0 < length places) pairs
+all_within pairs places h k d l = subst (λ (p : Pair). p.0 < length places) (get_or_default pairs k none_yet d l) (h.within k l)

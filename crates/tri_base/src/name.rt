@@ -1,4 +1,4 @@
-ghost use Rattle.std.specs.Prelude.{◌≡◌, Some};
+ghost use Rattle.std.specs.Prelude.{◌≡◌, ◌<◌, ◌≤◌, length, Some};
 ghost use Rattle.tri_base.specs.Names.{is_name, is_word_byte, name_of};
 ghost use Rattle.std.specs.List.{list_all};
 
@@ -52,6 +52,8 @@ impl Name {
     pub fn bytes(&self) -> &[u8]
         ensures value { result.now ≡ self.now }
         ensures again { name_of self.now ≡ Some self.now }
+        ensures some { 0 < length self.now }
+        ensures fits { length self.now ≤ 32 }
     {
         &self.bytes[..self.len]
     }

@@ -1,4 +1,4 @@
-ghost use Rattle.std.specs.Prelude.{◌≡◌, ◌++◌, OnOk, OnErr, pos, true, option_map};
+ghost use Rattle.std.specs.Prelude.{◌≡◌, ◌≤◌, ◌+◌, ◌++◌, length, IsOk, OnOk, OnErr, pos, true, option_map};
 ghost use Rattle.std.specs.List.{list_all};
 ghost use Rattle.std.specs.Char.{is_ascii_digit};
 ghost use Rattle.std.specs.Str.Parse.{digits_value};
@@ -22,6 +22,8 @@ pub fn read_number(text: &[u8]) -> Option<i64>
 /// Adds the shortest decimal text of a number, all of it or nothing.
 pub fn push_number(text: &mut Text, value: i64) -> Result<(), NoMemory>
     ensures list { OnOk result (text.new.list ≡ text.old.list ++ signed_decimal value) }
+    ensures room { text.old.spare ≤ text.new.spare + length (signed_decimal value) }
+    ensures room_serves { length (signed_decimal value) ≤ text.old.spare → IsOk result }
     ensures refused { OnErr result (text.new ≡ text.old) }
 {
     let mut buffer = Buffer::new();

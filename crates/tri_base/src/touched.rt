@@ -1,4 +1,5 @@
-ghost use Rattle.std.specs.Prelude.{◌≡◌, ◌<◌, [], IfOk};
+ghost use Rattle.std.specs.Prelude.{◌≡◌, ◌≢◌, ◌<◌, ◌≤◌, [], length, IfOk};
+ghost use Rattle.std.specs.List.{All, AllPairs};
 ghost use Rattle.tri_base.specs.Noted.{number_before, noted};
 
 use crate::memory::NoMemory;
@@ -58,8 +59,12 @@ impl Touched {
     }
 
     /// Lends the pairs of an address and the number that stood there before the first store.
+    /// No two pairs have one address, so there are at most as many as words.
     pub fn pairs(&self) -> &[(usize, i64)]
-        ensures { result.now ≡ self.now.pairs }
+        ensures value { result.now ≡ self.now.pairs }
+        ensures within { All (λ pair. pair.0 < self.now.size) self.now.pairs }
+        ensures once { AllPairs (λ pair other. pair.0 ≢ other.0) self.now.pairs }
+        ensures few { length self.now.pairs ≤ self.now.size }
     {
         self.pairs.as_slice()
     }

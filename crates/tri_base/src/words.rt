@@ -1,4 +1,4 @@
-ghost use Rattle.std.specs.Prelude.{◌≡◌, ◌<◌, ◌≤◌, ◌+◌, [], ◌∷◌, ◌++◌, length, slice_set, OnOk, OnErr, IfOk};
+ghost use Rattle.std.specs.Prelude.{◌≡◌, ◌<◌, ◌≤◌, ◌+◌, [], ◌∷◌, ◌++◌, length, slice_set, IsOk, OnOk, OnErr, IfOk};
 
 use crate::memory::NoMemory;
 use std::alloc::Global;
@@ -111,6 +111,7 @@ impl Words {
 pub fn push_word(words: &mut Words, value: i64) -> Result<(), NoMemory>
     ensures list { OnOk result (words.new.list ≡ words.old.list ++ value ∷ []) }
     ensures room { words.old.spare ≤ words.new.spare + 1 }
+    ensures room_serves { 0 < words.old.spare → IsOk result }
     ensures refused { OnErr result (words.new ≡ words.old) }
 {
     words.items.push(value).map_err(|_| NoMemory)?;
