@@ -57,6 +57,10 @@ fn push_numbers(text: &mut Text, numbers: &[i64]) -> Result<(), NoMemory>
 fn push_spaced(text: &mut Text, number: i64) -> Result<(), NoMemory>
     ensures { OnOk result (text.new.list ≡ text.old.list ++ spaced number) }
 {
+    // A number of one digit, as each discrete value is, takes one write.
+    if 0 <= number && number < 10 {
+        return push_bytes(text, &[b' ', b'0' + number as u8]);
+    }
     push_bytes(text, b" ")?;
     push_number(text, number)
 }
