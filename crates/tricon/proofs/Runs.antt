@@ -1,20 +1,19 @@
 -- What a run comes to, over plain values.
-use Rattle.std.proofs.Common.{◌≡◌, ℕ, ◌≤◌, ◌<◌, ◌+◌, Bool, true, false, List, [], ◌∷◌, ◌++◌, length, map, get_or, Option, Some, None, refl, sym, ap, ◌∙◌, subst, arith, ◌⊎◌, inl, inr, codes, IsTrue, ◌↔◌}
+use Rattle.std.proofs.Common.{◌≡◌, ℕ, ◌≤◌, ◌<◌, Bool, true, List, [], ◌∷◌, ◌++◌, length, get_or, Option, Some, None, refl, sym, ap, ◌∙◌, subst, arith, ◌⊎◌, inl, inr, codes}
 use Rattle.std.specs.Bool.{Decides}
 use Rattle.tri_base.specs.Rows.{TextValue}
 use Rattle.tri_io.specs.Counts.{Rose}
-use Rattle.tri_io.specs.Wholes.{TakesAll, TakesPast, TakesFront, PutsAll, PutsSome}
+use Rattle.tri_io.specs.Wholes.{TakesAll, TakesPast}
 use Rattle.tri_base.specs.declared.point.Point.{Point}
 use Rattle.plant_script.specs.ScriptText.{script_of}
 use Rattle.plant_script.specs.ScriptValue.{ReadScript}
-use Rattle.tricon.specs.SmallProgram.{SmallProgram, IsSmall}
+use Rattle.tricon.specs.SmallProgram.{IsSmall}
 use Rattle.tricon.specs.SmallMeaning.{Wiring, wiring_of, Means, MeansNothing}
 use Rattle.tricon.specs.SoloReport.{IsSoloReport, solo_report}
-use Rattle.tricon.specs.Answers.{IsSolo, Run, Says, SpellsNone, BuildsNone, script_limit}
-use Rattle.tricon.specs.Plays.{Plays, NoneBuilds, IsRefusedFor}
+use Rattle.tricon.specs.Answers.{IsSolo, Run, Says, script_limit}
+use Rattle.tricon.specs.Plays.{NoneBuilds}
 use Rattle.tricon.specs.declared.status.Status.{Status}
 use Rattle.tricon.specs.declared.status.Status.TheVariants.{Done, Usage, Refused, ReadFault, WriteFault, NoMemory, ScriptTooLong}
-use Rattle.tricon.specs.declared.status.RefusedCause.{RefusedCause}
 use Rattle.tricon.specs.declared.status.RefusedCause.TheVariants.{NoScript, NoProgram}
 
 -- one word, which is `solo` or not

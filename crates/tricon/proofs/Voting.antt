@@ -1,5 +1,5 @@
 -- The votes of three lists of readings.
-use Rattle.std.proofs.Common.{◌≡◌, ℕ, ℤ, ◌<◌, List, [], ◌∷◌, ◌++◌, length, refl, sym, ap, ◌∙◌, arith, append-nil, append_assoc, get_or, take, drop, pos, ◌-◌, ◌≤◌}
+use Rattle.std.proofs.Common.{◌≡◌, ℤ, ◌<◌, List, [], ◌∷◌, ◌++◌, length, refl, sym, ap, ◌∙◌, arith, append-nil, append_assoc, get_or, take, drop, pos, ◌-◌, ◌≤◌}
 use Rattle.std.proofs.lemmas.List.{take_all}
 use Rattle.tricon.specs.VotedInputs.{votes, voted}
 

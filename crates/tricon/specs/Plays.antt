@@ -6,7 +6,7 @@ use Rattle.tri_base.specs.Rows.{TextValue}
 use Rattle.tricon.specs.SmallProgram.{SmallProgram, IsSmall}
 use Rattle.tricon.specs.SoloReport.{IsSoloReport}
 use Rattle.tricon.specs.declared.status.Status.{Status}
-use Rattle.tricon.specs.declared.status.Status.TheVariants.{Done, Usage, Refused, ReadFault, WriteFault, NoMemory, ScriptTooLong}
+use Rattle.tricon.specs.declared.status.Status.TheVariants.{Refused, NoMemory}
 use Rattle.tricon.specs.declared.status.RefusedCause.{RefusedCause}
 use Rattle.tricon.specs.declared.status.RefusedCause.TheVariants.{NoScript, NoProgram}
 

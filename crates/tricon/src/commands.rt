@@ -1,4 +1,4 @@
-ghost use Rattle.std.specs.Prelude.{◌≡◌, ◌≤◌, ◌⊎◌, ◌↔◌, IsTrue, List, ℕ, Some, length};
+ghost use Rattle.std.specs.Prelude.{◌≡◌, ◌<◌, ◌≤◌, ◌⊎◌, ◌↔◌, IsTrue, List, ℕ, Some, length};
 ghost use Rattle.tri_io.specs.Counts.{Rose};
 ghost use Rattle.tricon.specs.SoloReport.{IsSoloReport};
 ghost use Rattle.tricon.specs.Answers.{IsSolo, Says, IsSilent, script_limit};
@@ -39,6 +39,10 @@ pub fn desk<S: Source, K: Sink>(
       written_before = K.faults sink.old;
       written_after = K.faults sink.new;
     }) result }
+    // A script above the limit is neither played nor refused for what it says.
+    ensures too_long { (bytes : List ℕ)
+        → IsSolo words.now → S.left source.old ≡ Some bytes → script_limit < length bytes
+        → (result ≡ Status.ScriptTooLong) ⊎ ((result ≡ Status.ReadFault) ⊎ (result ≡ Status.NoMemory)) }
     // A script within the limits, whose TEXT is a program, is played, unless source, sink or memory fail.
     ensures complete { (bytes report : List ℕ)
         → IsSolo words.now → S.left source.old ≡ Some bytes → length bytes ≤ script_limit → IsSoloReport bytes report
@@ -65,6 +69,9 @@ fn run_solo<S: Source, K: Sink>(alloc: Global, source: &mut S, sink: &mut K) -> 
       written_after = K.faults sink.new;
     }) result }
     ensures silent { IsSilent result → sink.new ≡ sink.old }
+    ensures too_long { (bytes : List ℕ)
+        → S.left source.old ≡ Some bytes → script_limit < length bytes
+        → (result ≡ Status.ScriptTooLong) ⊎ ((result ≡ Status.ReadFault) ⊎ (result ≡ Status.NoMemory)) }
 {
     let text = match read_all(alloc, source, SCRIPT_LIMIT) {
         Ok(text) => text,

@@ -10,3 +10,6 @@ mod status;
 pub use commands::desk;
 pub use small::laws::one_program;
 pub use status::{RefusedCause, Status, status_line};
+
+#[cfg(test)]
+mod tests;

@@ -1,9 +1,8 @@
-use crate::small::program::SmallProgram;
 use crate::small::read_small::read_small;
 use chassis::Chassis;
 use std::alloc::Global;
 use std::test::Fail;
-use tri_base::{Name, NoMemory, Point, PointKind, Words, push_word};
+use tri_base::{Name, NoMemory, Point, PointKind};
 
 /// Two inputs and two outputs, and an input that has the name of a reserved word.
 fn plant(alloc: Global) -> Result<Chassis, Fail> {
@@ -104,44 +103,6 @@ fn exactly_the_small_programs_are_read(rt: HostRuntime) -> Result<(), Fail> {
         ("", false),
     ] {
         assert_eq!(rt; is_small(rt.alloc(), &chassis, text)?, small, "{text}");
-    }
-    Ok(())
-}
-
-/// So many words, all 0, and then these.
-fn words(alloc: Global, zeros: usize, others: &[i64]) -> Result<Words, NoMemory> {
-    let mut words = Words::new(alloc);
-    for _ in 0..zeros {
-        push_word(&mut words, 0)?;
-    }
-    for other in others {
-        push_word(&mut words, *other)?;
-    }
-    Ok(words)
-}
-
-/// A program that shows on LAMP what OPEN was a scan before.
-fn latch(alloc: Global, chassis: &Chassis) -> Result<Option<SmallProgram>, NoMemory> {
-    let text =
-        b"PROGRAM P VAR_EXTERNAL TRIP, OPEN, LAMP : BOOL; END_VAR LAMP := OPEN; OPEN := TRIP; END_PROGRAM";
-    read_small(alloc, chassis, text)
-}
-
-#[test]
-fn assignments_are_made_in_order_and_memory_is_kept(rt: HostRuntime) -> Result<(), Fail> {
-    let chassis = plant(rt.alloc())?;
-    let text =
-        b"PROGRAM P VAR_EXTERNAL TRIP, OPEN, LAMP : BOOL; END_VAR LAMP := OPEN; OPEN := TRIP; END_PROGRAM";
-    let program = read_small(rt.alloc(), &chassis, text)?.ok_or("program")?;
-    let mut memory = words(rt.alloc(), program.tag_count(), &[])?;
-    let inputs = words(rt.alloc(), 2, &[1])?;
-    let mut outputs = words(rt.alloc(), program.output_count(), &[])?;
-    for want in [[1, 0], [1, 1]] {
-        assert_eq!(rt; memory.len(), program.tag_count());
-        assert_eq!(rt; inputs.len(), program.input_count());
-        assert_eq!(rt; outputs.len(), program.output_count());
-        program.scan(&mut memory, &inputs, &mut outputs);
-        assert_eq!(rt; outputs.items(), want.as_slice());
     }
     Ok(())
 }

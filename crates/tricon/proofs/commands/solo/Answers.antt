@@ -1,6 +1,6 @@
-use Rattle.std.proofs.Common.{◌∙◌, arith, sym, refl}
+use Rattle.std.proofs.Common.{◌∙◌, arith}
 use Rattle.plant_script.specs.Lines.{lines_of-le}
-use Rattle.tricon.proofs.Runs.{reported, unbuilt}
+use Rattle.tricon.proofs.Runs.{reported}
 use Rattle.tricon.proofs.commands.solo.Goals as goal
 
 pub read_script-requires : goal.read_script-requires
