@@ -5,9 +5,13 @@
 pub mod blocks;
 mod counters;
 mod fields;
+pub mod instructions;
 pub mod kinds;
 mod latches;
 mod timers;
+pub mod verified;
 
 pub use crate::blocks::{BlockKind, step_block};
+pub use crate::instructions::Instr;
 pub use crate::kinds::Kind;
+pub use crate::verified::{BadCode, CodeRule};
