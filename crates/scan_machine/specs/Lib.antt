@@ -1,3 +1,5 @@
 pub mod Values
 pub mod Blocks
 pub mod Rules
+pub mod Checks
+pub mod Machine

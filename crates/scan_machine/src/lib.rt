@@ -8,6 +8,7 @@ mod fields;
 pub mod instructions;
 pub mod kinds;
 mod latches;
+mod rules;
 mod timers;
 pub mod verified;
 

@@ -1,0 +1,58 @@
+-- What the parts of `verify` answer. No public clause cites it.
+use Rattle.std.specs.Prelude.{◌≡◌, ℕ, ◌<◌, ◌≤◌, ◌≢◌, List, Option, None, Some, length, slice_get, IfSome}
+use Rattle.scan_machine.specs.declared.instructions.Instr.{Instr}
+use Rattle.scan_machine.specs.declared.instructions.Instr.TheVariants as i
+use Rattle.scan_machine.specs.declared.verified.CodeRule.{CodeRule}
+use Rattle.scan_machine.specs.declared.verified.CodeRule.TheVariants as rule
+use Rattle.scan_machine.specs.declared.verified.BadCode.{BadCode}
+use Rattle.scan_machine.specs.Rules.{HasTarget, HasDepth, depth_at, IsTarget, Lies, store_reach, Keeps, rank}
+
+-- a Next goes back no further than to `back`
+abbrev pub StartsFrom : ℕ → Instr → Type 0
+StartsFrom back (i.Next address kind step last start) = back ≤ start
+StartsFrom back _ = Unit {0}
+
+-- from `back` on no instruction before the place stores to the word or goes back further
+abbrev pub IsAlone : List Instr → ℕ → ℕ → ℕ → Type 0
+IsAlone code address back place =
+    (at : ℕ) → (instr : Instr) → back ≤ at → at < place → slice_get code at ≡ Some instr
+    → (Lies address (store_reach instr) → ⊥) × StartsFrom back instr
+
+-- each instruction before the place keeps the rule Target
+abbrev pub HaveTargets : List Instr → ℕ → Type 0
+HaveTargets code place = (at : ℕ) → at < place → IfSome (slice_get code at) (HasTarget (length code) at)
+
+-- each instruction before the place has its operands and room
+abbrev pub HaveDepths : List Instr → ℕ → Type 0
+HaveDepths code place = (at : ℕ) → at < place → IfSome (slice_get code at) (HasDepth (depth_at code at))
+
+-- the place keeps the rule, but that operands may wait at a target
+abbrev pub KeepsAlone : List Instr → ℕ → ℕ → CodeRule → Type 0
+KeepsAlone code words place rule.Depth =
+    IfSome (slice_get code place) (HasDepth (depth_at code place)) × (place ≡ length code → depth_at code place ≡ 0)
+KeepsAlone code words place rule.Address = Keeps code words place rule.Address
+KeepsAlone code words place rule.Constant = Keeps code words place rule.Constant
+KeepsAlone code words place rule.Target = Keeps code words place rule.Target
+KeepsAlone code words place rule.Loop = Keeps code words place rule.Loop
+
+-- the first rule that is broken at a place, but for operands at a target
+pub record IsBrokenAt (code : List Instr) (words : ℕ) (place : ℕ) (cause : CodeRule) : Type 0 where
+  pub earlier : (r : CodeRule) → rank r < rank cause → KeepsAlone code words place r
+  pub broken : KeepsAlone code words place cause → ⊥
+
+-- the first place that breaks one
+pub record IsFirstAlone (code : List Instr) (words : ℕ) (bad : BadCode) : Type 0 where
+  pub within : bad.index ≤ length code
+  pub before : (place : ℕ) → place < bad.index → (r : CodeRule) → KeepsAlone code words place r
+  pub here : IsBrokenAt code words bad.index bad.cause
+
+-- no operand waits at a target before the place
+abbrev pub HaveEmptyTargets : List Instr → ℕ → Type 0
+HaveEmptyTargets code place = (target : ℕ) → target < place → IsTarget code target → depth_at code target ≡ 0
+
+-- the first target at which an operand waits
+pub record IsFirstLoaded (code : List Instr) (limit target : ℕ) : Type 0 where
+  pub within : target ≤ limit
+  pub is_target : IsTarget code target
+  pub waiting : depth_at code target ≢ 0
+  pub before : HaveEmptyTargets code target
