@@ -15,7 +15,7 @@ pub alone_more : (code : List Instr) (address back at : ℕ) (d : Instr) → IsA
 alone_more code address back at d before stores starts k instr from below is =
     let P : ℕ → Type 0 = λ k. (instr : Instr) → back ≤ k → slice_get code k ≡ Some instr → (Lies address (store_reach instr) → ⊥) × StartsFrom back instr in
     let here : P at = λ instr from is.
-        subst (λ instr. (Lies address (store_reach instr) → ⊥) × StartsFrom back instr) (get_or_from_slice_get code at instr d is) (stores, starts) in
+    subst (λ instr. (Lies address (store_reach instr) → ⊥) × StartsFrom back instr) (get_or_from_slice_get code at instr d is) (stores, starts) in
     below_more P at (λ k below instr from is. before k instr from below is) here k below instr from is
 
 -- the loop of an earlier Next
@@ -47,9 +47,9 @@ module _ (code : List Instr) (place address : ℕ) (kind : Kind) (step last : �
       → (IsTrue b ↔ IsAlone code address back place) → (IsTrue b ↔ IfSome (slice_get code place) (HasLoop code place))
   loop_alone b d within is targets h =
       let here : slice_get code place ≡ Some (i.Next address kind step last back) =
-          subst (λ x. slice_get code place ≡ Some x) is (slice_get-get_or code place d within) in
+      subst (λ x. slice_get code place ≡ Some x) is (slice_get-get_or code place d within) in
       subst (λ o. (IsTrue b ↔ IfSome o (HasLoop code place))) (sym here)
-          ((λ t. loop_from_alone (h.0 t)), (λ loop. h.1 (alone_from_loop targets loop)))
+      ((λ t. loop_from_alone (h.0 t)), (λ loop. h.1 (alone_from_loop targets loop)))
 
 -- an instruction that is no Next has no loop
 no_loop : (code : List Instr) (place : ℕ) (instr : Instr)

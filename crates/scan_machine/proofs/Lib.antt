@@ -1,2 +1,4 @@
 pub mod Reaches
 pub mod Alone
+pub mod Waiting
+pub mod Sound

@@ -13,4 +13,4 @@ last_there words first more h = h (first + more) (omega arith, omega arith)
 pub words_there : (b : Bool) (words first more : ℕ) (instr : Instr) → Some (first, more) ≡ reach instr → (IsTrue b ↔ (first + more < words)) → (IsTrue b ↔ HasWords words instr)
 words_there b words first more instr is h =
     subst (λ r. (IsTrue b ↔ ((word : ℕ) → Lies word r → word < words))) is
-        ((λ t. all_there words first more (h.0 t)), (λ all. h.1 (last_there words first more all)))
+    ((λ t. all_there words first more (h.0 t)), (λ all. h.1 (last_there words first more all)))

@@ -5,7 +5,7 @@ use Rattle.scan_machine.specs.declared.instructions.Instr.TheVariants as i
 use Rattle.scan_machine.specs.declared.verified.CodeRule.{CodeRule}
 use Rattle.scan_machine.specs.declared.verified.CodeRule.TheVariants as rule
 use Rattle.scan_machine.specs.declared.verified.BadCode.{BadCode}
-use Rattle.scan_machine.specs.Rules.{HasTarget, HasDepth, depth_at, IsTarget, Lies, store_reach, Keeps, rank}
+use Rattle.scan_machine.specs.Rules.{HasTarget, HasDepth, depth_at, IsTarget, NamesTarget, Lies, store_reach, Keeps, rank}
 
 -- a Next goes back no further than to `back`
 abbrev pub StartsFrom : ℕ → Instr → Type 0
@@ -40,19 +40,29 @@ pub record IsBrokenAt (code : List Instr) (words : ℕ) (place : ℕ) (cause : C
   pub earlier : (r : CodeRule) → rank r < rank cause → KeepsAlone code words place r
   pub broken : KeepsAlone code words place cause → ⊥
 
+-- the place breaks none, but for operands at a target
+abbrev pub IsSoundAt : List Instr → ℕ → ℕ → Type 0
+IsSoundAt code words place = (r : CodeRule) → KeepsAlone code words place r
+
+-- no place before this one breaks one
+abbrev pub AreSoundBelow : List Instr → ℕ → ℕ → Type 0
+AreSoundBelow code words place = (at : ℕ) → at < place → (r : CodeRule) → KeepsAlone code words at r
+
 -- the first place that breaks one
 pub record IsFirstAlone (code : List Instr) (words : ℕ) (bad : BadCode) : Type 0 where
   pub within : bad.index ≤ length code
-  pub before : (place : ℕ) → place < bad.index → (r : CodeRule) → KeepsAlone code words place r
+  pub before : AreSoundBelow code words bad.index
   pub here : IsBrokenAt code words bad.index bad.cause
 
 -- no operand waits at a target before the place
 abbrev pub HaveEmptyTargets : List Instr → ℕ → Type 0
 HaveEmptyTargets code place = (target : ℕ) → target < place → IsTarget code target → depth_at code target ≡ 0
 
--- the first target at which an operand waits
-pub record IsFirstLoaded (code : List Instr) (limit target : ℕ) : Type 0 where
-  pub within : target ≤ limit
-  pub is_target : IsTarget code target
+-- the instruction at a place names no target before the bound at which an operand waits
+abbrev pub NamesEmpty : List Instr → ℕ → ℕ → Type 0
+NamesEmpty code bound place = (target : ℕ) → target < bound → NamesTarget code place target → depth_at code target ≡ 0
+
+-- a target at which an operand waits
+pub record IsLoaded (code : List Instr) (target : ℕ) : Type 0 where
+  pub named : IsTarget code target
   pub waiting : depth_at code target ≢ 0
-  pub before : HaveEmptyTargets code target

@@ -3,3 +3,4 @@ pub mod Blocks
 pub mod Rules
 pub mod Checks
 pub mod Machine
+pub mod Codes

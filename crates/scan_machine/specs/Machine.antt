@@ -81,8 +81,9 @@ push_computed s c below = record (onward s (c.value ∷ below)) { flag = s.flag 
 -- a number stored at an address, and the pair noted
 abbrev pub store : State → ℕ → ℤ → State
 store s address v = record s {
-    words = slice_set s.words address v;
-    stores = noted s.stores address (slice_index_or s.words address (pos 0)) }
+  words = slice_set s.words address v;
+  stores = noted s.stores address (slice_index_or s.words address (pos 0));
+}
 
 -- the state from the topmost operand and those below it; none where it lacks
 abbrev pub with_one : List ℤ → (ℤ → List ℤ → State) → Option State
@@ -115,8 +116,9 @@ abbrev pub call : State → BlockKind → ℕ → ℤ → State
 call s kind address dt =
     let fields = take (field_count kind) (drop address s.words) in
     record (onward s s.stack) {
-        words = take address s.words ++ after_call kind dt fields ++ drop (address + field_count kind) s.words;
-        stores = noted_all s.stores address fields }
+      words = take address s.words ++ after_call kind dt fields ++ drop (address + field_count kind) s.words;
+      stores = noted_all s.stores address fields;
+    }
 
 -- a value stored at an element of an array
 abbrev pub store_element : State → ℕ → Kind → Computed → ℤ → ℤ → List ℤ → State
@@ -135,8 +137,8 @@ does dt (i.Load address kind) s = Some (onward s (read s address kind ∷ s.stac
 does dt (i.Store address kind) s = with_one s.stack (λ x below. store (onward s below) address (clamped kind x))
 does dt (i.LoadAt address kind low high) s =
     with_one s.stack (λ x below.
-        let index = bounded low high x in
-        push_computed s (record index { value = read s (element address low index.value) kind }) below)
+    let index = bounded low high x in
+    push_computed s (record index { value = read s (element address low index.value) kind }) below)
 does dt (i.StoreAt address kind low high) s =
     with_two s.stack (λ x v below. store_element s address kind (bounded low high x) low v below)
 does dt (i.Add kind) s = compute s (λ x y. exact kind (x +ℤ y))

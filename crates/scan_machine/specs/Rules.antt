@@ -134,10 +134,14 @@ named (i.JumpFalse target) = Some target
 named (i.Next address kind step last back) = Some back
 named _ = None
 
--- some instruction names the place, and keeps the rule Target
+-- the instruction at a place names a target, and keeps the rule Target
+abbrev pub NamesTarget : List Instr → ℕ → ℕ → Type 0
+NamesTarget code place target =
+    (instr : Instr) × (slice_get code place ≡ Some instr) × (named instr ≡ Some target) × HasTarget (length code) place instr
+
+-- some instruction names the place as a target
 abbrev pub IsTarget : List Instr → ℕ → Type 0
-IsTarget code place =
-    (at : ℕ) × (instr : Instr) × (slice_get code at ≡ Some instr) × (named instr ≡ Some place) × HasTarget (length code) at instr
+IsTarget code target = (place : ℕ) × NamesTarget code place target
 
 -- the place keeps the rule Depth; no operand waits at a target or at the end
 pub record KeepsDepth (code : List Instr) (place : ℕ) : Type 0 where
@@ -173,9 +177,9 @@ Keeps code words place rule.Target = IfSome (slice_get code place) (HasTarget (l
 Keeps code words place rule.Depth = KeepsDepth code place
 Keeps code words place rule.Loop = IfSome (slice_get code place) (HasLoop code place)
 
--- no rule is broken anywhere
+-- no rule is broken, at no place of the list and not at its end
 abbrev pub IsVerified : List Instr → ℕ → Type 0
-IsVerified code words = (place : ℕ) → (r : CodeRule) → Keeps code words place r
+IsVerified code words = (place : ℕ) → place ≤ length code → (r : CodeRule) → Keeps code words place r
 
 -- the order of the rules
 abbrev pub rank : CodeRule → ℕ

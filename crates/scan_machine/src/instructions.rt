@@ -1,5 +1,5 @@
-ghost use Rattle.std.specs.Prelude.{◌≡◌};
-ghost use Rattle.scan_machine.specs.Rules.{array_reach, reach, store_reach, takes, gives};
+ghost use Rattle.std.specs.Prelude.{◌≡◌, ◌≤◌};
+ghost use Rattle.scan_machine.specs.Rules.{array_reach, reach, store_reach, takes, gives, named};
 
 use crate::blocks::BlockKind;
 use crate::kinds::Kind;
@@ -128,10 +128,16 @@ impl Instr {
             Instr::Store(address, _) => Some((address, 0)),
             Instr::Next { address, .. } => Some((address, 0)),
             Instr::LoadAt {
-                address, low, high, ..
+                address,
+                low,
+                high,
+                ..
             } => array_reach(address, low, high),
             Instr::StoreAt {
-                address, low, high, ..
+                address,
+                low,
+                high,
+                ..
             } => array_reach(address, low, high),
             Instr::Call(kind, address) => Some((address, kind.fields() - 1)),
             _ => None,
@@ -167,13 +173,26 @@ impl Instr {
 
     /// How many operands it pushes.
     pub(crate) fn gives(&self) -> usize
-        ensures { result ≡ gives self.now }
+        ensures value { result ≡ gives self.now }
+        ensures within { result ≤ 1 }
     {
         match self {
             Instr::Store(..) | Instr::StoreAt { .. } => 0,
             Instr::Jump(_) | Instr::JumpFalse(_) => 0,
             Instr::Next { .. } | Instr::Call(..) => 0,
             _ => 1,
+        }
+    }
+
+    /// The place that it names.
+    pub(crate) fn named(&self) -> Option<usize>
+        ensures { result ≡ named self.now }
+    {
+        match *self {
+            Instr::Jump(target) => Some(target),
+            Instr::JumpFalse(target) => Some(target),
+            Instr::Next { back, .. } => Some(back),
+            _ => None,
         }
     }
 }

@@ -4,6 +4,7 @@
 
 pub mod blocks;
 mod counters;
+mod depths;
 mod fields;
 pub mod instructions;
 pub mod kinds;
@@ -15,4 +16,4 @@ pub mod verified;
 pub use crate::blocks::{BlockKind, step_block};
 pub use crate::instructions::Instr;
 pub use crate::kinds::Kind;
-pub use crate::verified::{BadCode, CodeRule};
+pub use crate::verified::{BadCode, Code, CodeRule};

@@ -33,7 +33,10 @@ pub(crate) fn has_constants(instr: &Instr) -> bool
         Instr::Push(value) => is_operand(value),
         Instr::Within(low, high) => is_operand(low) && is_operand(high),
         Instr::Next {
-            kind, step, last, ..
+            kind,
+            step,
+            last,
+            ..
         } => is_of(kind, step) && is_of(kind, last) && step != 0,
         Instr::LoadAt { low, high, .. } => are_bounds(low, high),
         Instr::StoreAt { low, high, .. } => are_bounds(low, high),
