@@ -1,5 +1,5 @@
 -- The values of a word: BOOL is 0 or 1, INT 16 bits and DINT 32 bits, both signed (IEC 61131-3, elementary data types).
-use Rattle.std.specs.Prelude.{ℤ, pos, negsuc, ◌≤ℤ◌, Bool, true, false, zero, suc}
+use Rattle.std.specs.Prelude.{ℤ, pos, negsuc, ◌≤ℤ◌, Bool, true, false, zero, suc, List, [], ◌∷◌}
 use Rattle.std.specs.Int.{int_max, int_min}
 use Rattle.scan_machine.specs.declared.kinds.Kind.{Kind}
 use Rattle.scan_machine.specs.declared.kinds.Kind.TheVariants as kind
@@ -36,3 +36,8 @@ clamped kind.Dint v = int_max (least kind.Dint) (int_min v (greatest kind.Dint))
 -- the number lies in the range of a constant
 abbrev pub IsOperand : ℤ → Type 0
 IsOperand v = (negsuc 2147483647 ≤ℤ v) × (v ≤ℤ pos 2147483648)
+
+-- each number lies in that range
+abbrev pub AreOperands : List ℤ → Type 0
+AreOperands [] = Unit {0}
+AreOperands (x ∷ xs) = IsOperand x × AreOperands xs

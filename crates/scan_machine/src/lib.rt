@@ -9,7 +9,9 @@ mod fields;
 pub mod instructions;
 pub mod kinds;
 mod latches;
+mod numbers;
 mod rules;
+mod stack;
 mod timers;
 pub mod verified;
 
