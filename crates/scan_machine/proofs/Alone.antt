@@ -26,7 +26,7 @@ nests back place at (i.Next address kind step last start) below starts =
     elim (cases_lt at back) as (λ _. P) [ inl h ↦ inl h | inr h ↦ within h ]
 nests back place at _ below starts = tt
 
-starts_from : (count back place at : ℕ) (instr : Instr) → at < place → back ≤ at → HasTarget count at instr → NestsWith back place at instr → StartsFrom back instr
+pub starts_from : (count back place at : ℕ) (instr : Instr) → at < place → back ≤ at → HasTarget count at instr → NestsWith back place at instr → StartsFrom back instr
 starts_from count back place at (i.Next address kind step last start) below from target (inl h) = absurd (omega arith)
 starts_from count back place at (i.Next address kind step last start) below from target (inr (inl h)) = absurd (omega arith)
 starts_from count back place at (i.Next address kind step last start) below from target (inr (inr (inl h))) = absurd (omega arith)

@@ -1,5 +1,5 @@
--- What the parts of `verify` answer. No public clause cites it.
-use Rattle.std.specs.Prelude.{◌≡◌, ℕ, ◌<◌, ◌≤◌, ◌≢◌, List, Option, None, Some, length, slice_get, IfSome}
+-- What the parts of `verify` and `run` ask and answer. No public clause cites it.
+use Rattle.std.specs.Prelude.{◌⊎◌, ◌≡◌, ℕ, ◌<◌, ◌≤◌, ◌≢◌, List, Option, None, Some, length, slice_get, IfSome}
 use Rattle.scan_machine.specs.declared.instructions.Instr.{Instr}
 use Rattle.scan_machine.specs.declared.instructions.Instr.TheVariants as i
 use Rattle.scan_machine.specs.declared.verified.CodeRule.{CodeRule}
@@ -66,3 +66,61 @@ NamesEmpty code bound place = (target : ℕ) → target < bound → NamesTarget 
 pub record IsLoaded (code : List Instr) (target : ℕ) : Type 0 where
   pub named : IsTarget code target
   pub waiting : depth_at code target ≢ 0
+
+-- ---- the instructions that work on operands alone
+
+-- those that compute a number of two operands
+abbrev pub IsArithmetic : Instr → Type 0
+IsArithmetic (i.Add kind) = Unit {0}
+IsArithmetic (i.Sub kind) = Unit {0}
+IsArithmetic (i.Mul kind) = Unit {0}
+IsArithmetic (i.Div kind) = Unit {0}
+IsArithmetic (i.Mod kind) = Unit {0}
+IsArithmetic (i.Min kind) = Unit {0}
+IsArithmetic (i.Max kind) = Unit {0}
+IsArithmetic _ = ⊥
+
+-- those that ask something of two operands
+abbrev pub IsTest : Instr → Type 0
+IsTest i.And = Unit {0}
+IsTest i.Or = Unit {0}
+IsTest i.Xor = Unit {0}
+IsTest i.Eq = Unit {0}
+IsTest i.Ne = Unit {0}
+IsTest i.Lt = Unit {0}
+IsTest i.Gt = Unit {0}
+IsTest i.Le = Unit {0}
+IsTest i.Ge = Unit {0}
+IsTest _ = ⊥
+
+-- both of these
+abbrev pub IsBinary : Instr → Type 0
+IsBinary instr = IsArithmetic instr ⊎ IsTest instr
+
+-- those with one operand
+abbrev pub IsUnary : Instr → Type 0
+IsUnary (i.Neg kind) = Unit {0}
+IsUnary (i.Abs kind) = Unit {0}
+IsUnary (i.Convert kind) = Unit {0}
+IsUnary i.Not = Unit {0}
+IsUnary (i.Within low high) = Unit {0}
+IsUnary _ = ⊥
+
+-- those with three
+abbrev pub IsTernary : Instr → Type 0
+IsTernary i.Limit = Unit {0}
+IsTernary i.Select = Unit {0}
+IsTernary _ = ⊥
+
+-- all of these
+abbrev pub IsOperation : Instr → Type 0
+IsOperation (i.Push v) = ⊥
+IsOperation (i.Load address kind) = ⊥
+IsOperation (i.Store address kind) = ⊥
+IsOperation (i.LoadAt address kind low high) = ⊥
+IsOperation (i.StoreAt address kind low high) = ⊥
+IsOperation (i.Jump target) = ⊥
+IsOperation (i.JumpFalse target) = ⊥
+IsOperation (i.Next address kind step last back) = ⊥
+IsOperation (i.Call kind address) = ⊥
+IsOperation _ = Unit {0}

@@ -25,9 +25,13 @@ pub record Left : Type 0 where
 abbrev pub on_top : Computed → List ℤ → Option Left
 on_top c below = Some (record { stack = c.value ∷ below; flag = c.flag })
 
+-- a number on top of these operands
+abbrev pub one_operand : ℤ → List ℤ → Option Left
+one_operand v below = Some (record { stack = v ∷ below; flag = false })
+
 -- 1 or 0 on top of these operands
 abbrev pub answer : Bool → List ℤ → Option Left
-answer b below = Some (record { stack = number b ∷ below; flag = false })
+answer b below = one_operand (number b) below
 
 -- what an instruction that works on operands alone makes of them; none where an operand lacks
 abbrev pub operate : Instr → List ℤ → Option Left
@@ -41,8 +45,8 @@ operate (i.Max kind) (y ∷ x ∷ below) = on_top (exact kind (int_max x y)) bel
 operate (i.Neg kind) (x ∷ below) = on_top (exact kind (neg_ℤ x)) below
 operate (i.Abs kind) (x ∷ below) = on_top (exact kind (pos (unsigned_abs x))) below
 operate (i.Convert kind) (x ∷ below) = on_top (exact kind x) below
-operate i.Limit (mx ∷ x ∷ mn ∷ below) = Some (record { stack = int_min (int_max x mn) mx ∷ below; flag = false })
-operate i.Select (y ∷ x ∷ g ∷ below) = Some (record { stack = (if is_on g then y else x) ∷ below; flag = false })
+operate i.Limit (mx ∷ x ∷ mn ∷ below) = one_operand (int_min (int_max x mn) mx) below
+operate i.Select (y ∷ x ∷ g ∷ below) = one_operand (if is_on g then y else x) below
 operate i.And (y ∷ x ∷ below) = answer (is_on x && is_on y) below
 operate i.Or (y ∷ x ∷ below) = answer (is_on x || is_on y) below
 operate i.Xor (y ∷ x ∷ below) = answer (if is_on x then not (is_on y) else is_on y) below

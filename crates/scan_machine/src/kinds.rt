@@ -1,5 +1,5 @@
 ghost use Rattle.std.specs.Prelude.{◌≡◌, ◌≤ℤ◌};
-ghost use Rattle.scan_machine.specs.Values.{clamped, IsOperand};
+ghost use Rattle.scan_machine.specs.Values.{clamped, is_on, IsOperand};
 
 /// The type of a word.
 #[derive(Clone, Copy, Debug, PartialEq, Eq)]
@@ -22,4 +22,11 @@ pub fn clamp_to(kind: Kind, value: i64) -> i64
         Kind::Int => value.clamp(-32_768, 32_767),
         Kind::Dint => value.clamp(-2_147_483_648, 2_147_483_647),
     }
+}
+
+/// Whether a number counts as TRUE.
+pub(crate) fn is_on(value: i64) -> bool
+    ensures { result ≡ is_on value }
+{
+    value != 0
 }

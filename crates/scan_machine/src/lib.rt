@@ -10,6 +10,7 @@ pub mod instructions;
 pub mod kinds;
 mod latches;
 mod numbers;
+mod operations;
 mod rules;
 mod stack;
 mod timers;
