@@ -6,3 +6,4 @@ pub mod Dividing
 pub mod Digits
 pub mod Turns
 pub mod Doing
+pub mod Calling

@@ -92,7 +92,7 @@ words_at words address count = take count (drop address words)
 
 -- other words in place of those from an address on
 abbrev pub with_words : List ℤ → ℕ → List ℤ → List ℤ
-with_words words address new = take address words ++ (new ++ drop (address + length new) words)
+with_words words address new = take address words ++ (new ++ drop (length new) (drop address words))
 
 -- ---- the next state
 

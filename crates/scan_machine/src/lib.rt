@@ -9,6 +9,7 @@ mod fields;
 pub mod instructions;
 pub mod kinds;
 mod latches;
+mod machine;
 mod numbers;
 mod operations;
 mod rules;
