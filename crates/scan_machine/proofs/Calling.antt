@@ -1,5 +1,5 @@
 -- A block's words after a call.
-use Rattle.std.proofs.Common.{◌≡◌, ℕ, ◌+◌, ◌-◌, ℤ, List, ◌++◌, length, take, drop, arith, sym, ap, refl, ◌∙◌}
+use Rattle.std.proofs.Common.{◌≡◌, ℕ, ◌+◌, ◌-◌, ◌<◌, ℤ, List, ◌++◌, length, take, drop, arith, sym, ap, refl, ◌∙◌}
 use borrow.Rule.Slice.PartMut.{post_of}
 use Rattle.scan_machine.specs.declared.blocks.BlockKind.{BlockKind}
 use Rattle.scan_machine.specs.declared.blocks.BlockKind.TheVariants as block
@@ -26,3 +26,15 @@ called_words kind dt dt' address n words new count same is =
     let e : new ≡ f = is ∙ (ap (λ t. after_call kind t (take (address + n - address) (drop address words))) same ∙ ap (λ k. after_call kind dt (take k (drop address words))) size) in
     ap (λ l. take address words ++ (l ++ post_of address (address + n - address) words)) e
     ∙ ap (λ k. take address words ++ (f ++ drop k (drop address words))) (size ∙ sym (length-after_call kind dt (words_at words address (field_count kind))))
+
+-- a block has a field
+pub fields_some : (kind : BlockKind) → 0 < field_count kind
+fields_some block.RTrig = omega arith
+fields_some block.FTrig = omega arith
+fields_some block.Sr = omega arith
+fields_some block.Rs = omega arith
+fields_some block.Ctu = omega arith
+fields_some block.Ctd = omega arith
+fields_some block.Ton = omega arith
+fields_some block.Tof = omega arith
+fields_some block.Tp = omega arith

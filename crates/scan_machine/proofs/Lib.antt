@@ -7,3 +7,4 @@ pub mod Digits
 pub mod Turns
 pub mod Doing
 pub mod Calling
+pub mod Turning

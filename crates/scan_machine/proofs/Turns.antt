@@ -57,7 +57,7 @@ clamped-same kind.Bool v h = bool_same v h.0 h.1
 clamped-same kind.Int v h = omega (arith, ints, clamps, h.0, h.1)
 clamped-same kind.Dint v h = omega (arith, ints, clamps, h.0, h.1)
 
-within_dint : (kind : Kind) (v : ℤ) → IsOf kind v → (negsuc 2147483647 ≤ℤ v) × (v ≤ℤ pos 2147483647)
+pub within_dint : (kind : Kind) (v : ℤ) → IsOf kind v → (negsuc 2147483647 ≤ℤ v) × (v ≤ℤ pos 2147483647)
 within_dint kind.Bool v h = (omega (arith, ints, h.0, h.1), omega (arith, ints, h.0, h.1))
 within_dint kind.Int v h = (omega (arith, ints, h.0, h.1), omega (arith, ints, h.0, h.1))
 within_dint kind.Dint v h = h

@@ -1,10 +1,12 @@
 -- What the parts of `verify` and `run` ask and answer. No public clause cites it.
-use Rattle.std.specs.Prelude.{◌⊎◌, ◌≡◌, ℕ, ◌<◌, ◌≤◌, ◌≢◌, List, Option, None, Some, length, slice_get, IfSome}
+use Rattle.std.specs.Prelude.{◌⊎◌, ◌+◌, ◌||◌, ℤ, Bool, ◌≡◌, ℕ, ◌<◌, ◌≤◌, ◌≢◌, List, Option, None, Some, length, slice_get, IfSome}
 use Rattle.scan_machine.specs.declared.instructions.Instr.{Instr}
 use Rattle.scan_machine.specs.declared.instructions.Instr.TheVariants as i
 use Rattle.scan_machine.specs.declared.verified.CodeRule.{CodeRule}
 use Rattle.scan_machine.specs.declared.verified.CodeRule.TheVariants as rule
 use Rattle.scan_machine.specs.declared.verified.BadCode.{BadCode}
+use Rattle.scan_machine.specs.declared.kinds.Kind.{Kind}
+use Rattle.scan_machine.specs.Machine.{stored_at}
 use Rattle.scan_machine.specs.Rules.{HasTarget, HasDepth, depth_at, IsTarget, NamesTarget, Lies, store_reach, Keeps, rank}
 
 -- a Next goes back no further than to `back`
@@ -124,3 +126,10 @@ IsOperation (i.JumpFalse target) = ⊥
 IsOperation (i.Next address kind step last back) = ⊥
 IsOperation (i.Call kind address) = ⊥
 IsOperation _ = Unit {0}
+
+-- what a store at an element does, whatever the flag and the place were
+abbrev pub StoresAt : ℕ → Kind → ℤ → ℤ → List ℤ → List ℤ → List (ℕ × ℤ) → List ℤ → List ℤ → Bool → List (ℕ × ℤ) → Type 0
+StoresAt address kind low high stack words stores stack' words' flag stores' =
+    (index : ℕ) → (before : Bool)
+    → stored_at (record { index = index; stack = stack; words = words; flag = before; stores = stores }) address kind low high stack
+        ≡ Some (record { index = index + 1; stack = stack'; words = words'; flag = before || flag; stores = stores' })

@@ -110,12 +110,12 @@ abbrev pub stored : State → ℕ → Kind → List ℤ → Option State
 stored s address kind [] = None
 stored s address kind (x ∷ below) = Some (store (onward s below) address (clamped kind x))
 
--- an element pushed, at the index on top
-abbrev pub loaded_at : State → ℕ → Kind → ℤ → ℤ → List ℤ → Option State
-loaded_at s address kind low high [] = None
-loaded_at s address kind low high (x ∷ below) =
+-- the element of an array at the index on top
+abbrev pub load_at : List ℤ → ℕ → Kind → ℤ → ℤ → List ℤ → Option Left
+load_at words address kind low high [] = None
+load_at words address kind low high (x ∷ below) =
     let index = bounded low high x in
-    Some (record (onward s (read s.words (element address low index.value) kind ∷ below)) { flag = s.flag || index.flag })
+    Some (record { stack = read words (element address low index.value) kind ∷ below; flag = index.flag })
 
 -- the operand on top stored at an element, at the index below it
 abbrev pub stored_at : State → ℕ → Kind → ℤ → ℤ → List ℤ → Option State
@@ -147,7 +147,7 @@ abbrev pub does : ℤ → Instr → State → Option State
 does dt (i.Push v) s = Some (onward s (v ∷ s.stack))
 does dt (i.Load address kind) s = Some (onward s (read s.words address kind ∷ s.stack))
 does dt (i.Store address kind) s = stored s address kind s.stack
-does dt (i.LoadAt address kind low high) s = loaded_at s address kind low high s.stack
+does dt (i.LoadAt address kind low high) s = operated s (load_at s.words address kind low high s.stack)
 does dt (i.StoreAt address kind low high) s = stored_at s address kind low high s.stack
 does dt (i.Jump target) s = Some (record s { index = target })
 does dt (i.JumpFalse target) s = chosen s target s.stack
