@@ -8,3 +8,5 @@ pub mod Turns
 pub mod Doing
 pub mod Calling
 pub mod Turning
+pub mod Moves
+pub mod Stays

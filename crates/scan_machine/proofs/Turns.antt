@@ -95,6 +95,15 @@ turn_of false kind step last v is h k go =
     let stays : last ≤ℤ (v +ℤ step) = by_lt_z (v +ℤ step) last (λ h. absurd (grind (arith, ints))) (λ h. h) in
     (omega (arith, ints, h.0, h.1, k.0, k.1), omega (arith, ints, h.0, h.1, k.0, k.1))
 
+-- the word of a loop that goes back is the sum
+pub turned_read : (kind : Kind) (step last : ℤ) (words : List ℤ) (address : ℕ) → address < length words → IsOf kind last
+    → is_past step last (read words address kind +ℤ step) ≡ false
+    → read (slice_set words address (read words address kind +ℤ step)) address kind ≡ read words address kind +ℤ step
+turned_read kind step last words address there k go =
+    let v = read words address kind in
+    ap (clamped kind) (get_or-set_same words address (v +ℤ step) (pos 0) there)
+    ∙ clamped-same kind (v +ℤ step) (turn_of (int_lt (pos 0) step) kind step last v refl (clamped-of kind (slice_index_or words address (pos 0))) k go)
+
 -- ---- digits
 
 -- the digit of an instruction that the machine, at `index`, has not passed

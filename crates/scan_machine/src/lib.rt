@@ -4,6 +4,7 @@
 
 pub mod blocks;
 mod counters;
+pub mod counting;
 mod depths;
 mod fields;
 pub mod instructions;
@@ -13,11 +14,14 @@ mod machine;
 mod numbers;
 mod operations;
 mod rules;
+pub mod running;
 mod stack;
 mod timers;
 pub mod verified;
 
 pub use crate::blocks::{BlockKind, step_block};
 pub use crate::instructions::Instr;
+pub use crate::counting::Steps;
 pub use crate::kinds::Kind;
+pub use crate::running::run;
 pub use crate::verified::{BadCode, Code, CodeRule};
