@@ -23,6 +23,6 @@ value_less d' d (suc n) zero below less above bound =
     omega arith
 value_less d' d (suc n) (suc m) below less above bound =
     let rest = value_less (λ k. d' (suc k)) (λ k. d (suc k)) n m (omega arith) less
-        (λ k over under. above (suc k) (omega arith) (omega arith)) (λ k under. bound (suc k) (omega arith)) in
+    (λ k over under. above (suc k) (omega arith) (omega arith)) (λ k under. bound (suc k) (omega arith)) in
     let here : d' 0 < 4294967297 = bound 0 (omega arith) in
     omega arith

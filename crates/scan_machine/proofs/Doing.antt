@@ -36,7 +36,7 @@ module _ (instr : Instr) (stack mid low rest : List ℤ) (r : Option Left) where
       → operate instr (passed z ∷ passed y ∷ passed x ∷ rest) ≡ r → operate instr stack ≡ r
   three_done x y z e f g p q k h =
       ap (operate instr) (e ∙ (ap (λ l. z ∷ l) (f ∙ ap (λ l. y ∷ l) g) ∙ (ap (λ v. z ∷ y ∷ v ∷ rest) (sym (passed-same x p))
-          ∙ (ap (λ v. z ∷ v ∷ passed x ∷ rest) (sym (passed-same y q)) ∙ ap (λ v. v ∷ passed y ∷ passed x ∷ rest) (sym (passed-same z k)))))) ∙ h
+      ∙ (ap (λ v. z ∷ v ∷ passed x ∷ rest) (sym (passed-same y q)) ∙ ap (λ v. v ∷ passed y ∷ passed x ∷ rest) (sym (passed-same z k)))))) ∙ h
 
 pub two_passed : (instr : Instr) (x y : ℤ) (below : List ℤ) (r : Option Left) → IsOperand x → IsOperand y → operate instr (passed y ∷ passed x ∷ below) ≡ r → operate instr (y ∷ x ∷ below) ≡ r
 two_passed instr x y below r p q h = two_done instr (y ∷ x ∷ below) (x ∷ below) below below r x y refl refl p q h

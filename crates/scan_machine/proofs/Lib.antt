@@ -10,3 +10,4 @@ pub mod Calling
 pub mod Turning
 pub mod Moves
 pub mod Stays
+pub mod Ran

@@ -83,7 +83,7 @@ went_stored : (s s' : State) (address : ℕ) (kind : Kind) (stack : List ℤ) �
 went_stored s s' address kind [] e = absurd (none-some s' e)
 went_stored s s' address kind (x ∷ below) e =
     moved (i.Store address kind) s (store (onward s below) address (clamped kind x)) s' e
-        (record { leads = refl; same = λ word apart. set_other s.words address word (clamped kind x) (one_reach address word apart) })
+    (record { leads = refl; same = λ word apart. set_other s.words address word (clamped kind x) (one_reach address word apart) })
 
 went_stored_at : (s s' : State) (address : ℕ) (kind : Kind) (low high : ℤ) (stack : List ℤ) → low ≤ℤ high → stored_at s address kind low high stack ≡ Some s'
     → Went (i.StoreAt address kind low high) s s'
@@ -92,9 +92,11 @@ went_stored_at s s' address kind low high (v ∷ []) up e = absurd (none-some s'
 went_stored_at s s' address kind low high (v ∷ x ∷ below) up e =
     let index = bounded low high x in let place = element address low index.value in
     moved (i.StoreAt address kind low high) s (record (store (onward s below) place (clamped kind v)) { flag = s.flag || index.flag }) s' e
-        (record { leads = refl;
-                  same = λ word apart. set_other s.words place word (clamped kind v)
-                      (λ e. apart (subst (λ w. Lies w (array_reach address low high)) e (element_lies address low high x up))) })
+    (record {
+      leads = refl;
+      same = λ word apart. set_other s.words place word (clamped kind v)
+          (λ e. apart (subst (λ w. Lies w (array_reach address low high)) e (element_lies address low high x up)));
+    })
 
 either : (b : Bool) (m n : ℕ) → ((if b then m else n) ≡ m) ⊎ ((if b then m else n) ≡ n)
 either true m n = inl refl
@@ -104,7 +106,7 @@ went_chosen : (s s' : State) (target : ℕ) (stack : List ℤ) → chosen s targ
 went_chosen s s' target [] e = absurd (none-some s' e)
 went_chosen s s' target (x ∷ below) e =
     moved (i.JumpFalse target) s (record s { index = if is_on x then s.index + 1 else target; stack = below }) s' e
-        (record { leads = either (is_on x) (s.index + 1) target; same = λ word apart. refl })
+    (record { leads = either (is_on x) (s.index + 1) target; same = λ word apart. refl })
 
 module _ (s s' : State) (address : ℕ) (kind : Kind) (step last : ℤ) (back : ℕ) where
   abbrev sum : ℤ
@@ -115,7 +117,7 @@ module _ (s s' : State) (address : ℕ) (kind : Kind) (step last : ℤ) (back : 
   went_turned true is e = moved (i.Next address kind step last back) s (onward s s.stack) s' e (record { leads = inl refl; same = λ word apart. refl })
   went_turned false is e =
       moved (i.Next address kind step last back) s (record (store s address sum) { index = back }) s' e
-          (record { leads = inr (refl, is, refl); same = λ word apart. set_other s.words address word sum (one_reach address word apart) })
+      (record { leads = inr (refl, is, refl); same = λ word apart. set_other s.words address word sum (one_reach address word apart) })
 
 went_called : (s s' : State) (kind : BlockKind) (address : ℕ) (dt : ℤ) → HasWords (length s.words) (i.Call kind address) → Some (called s kind address dt) ≡ Some s'
     → Went (i.Call kind address) s s'
@@ -125,15 +127,15 @@ went_called s s' kind address dt there e =
     let some = fields_some kind in
     let within = reach_there (length s.words) address (field_count kind - 1) (i.Call kind address) refl there in
     let aside : (word : ℕ) → (Lies word (Some (address, field_count kind - 1)) → ⊥) → (word < address) ⊎ (address + length new ≤ word) =
-        λ word apart. elim (cases_lt word address) as (λ _. (word < address) ⊎ (address + length new ≤ word)) [
-            inl h ↦ inl h
-          | inr h ↦ elim (cases_lt word (address + length new)) as (λ _. (word < address) ⊎ (address + length new ≤ word)) [
-                inl k ↦ absurd (apart (h, omega arith))
-              | inr k ↦ inr k
-            ]
-        ] in
+    λ word apart. elim (cases_lt word address) as (λ _. (word < address) ⊎ (address + length new ≤ word)) [
+      | inl h ↦ inl h
+      | inr h ↦ elim (cases_lt word (address + length new)) as (λ _. (word < address) ⊎ (address + length new ≤ word)) [
+        | inl k ↦ absurd (apart (h, omega arith))
+        | inr k ↦ inr k
+      ]
+    ] in
     moved (i.Call kind address) s (called s kind address dt) s' e
-        (record { leads = refl; same = λ word apart. words_other s.words new address word (omega arith) (aside word apart) })
+    (record { leads = refl; same = λ word apart. words_other s.words new address word (omega arith) (aside word apart) })
 
 pub went : (dt : ℤ) (instr : Instr) (s s' : State) → HasWords (length s.words) instr → HasConstants instr → does dt instr s ≡ Some s' → Went instr s s'
 went dt (i.Push v) s s' w c e = moved (i.Push v) s (onward s (v ∷ s.stack)) s' e (record { leads = refl; same = λ word apart. refl })

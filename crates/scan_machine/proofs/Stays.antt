@@ -12,7 +12,7 @@ use Rattle.scan_machine.proofs.Turns.{potential, forward, backward, turned_read}
 use Rattle.scan_machine.proofs.Moves.{Leads, Went}
 
 module _ (code : List Instr) (total : ℕ) (kept : IsVerified code total) (at : ℕ) (d : Instr) (within : at < length code) where
-  instr_at : slice_get code at ≡ Some (get_or code at d)
+  pub instr_at : slice_get code at ≡ Some (get_or code at d)
   instr_at = slice_get-get_or code at d within
 
   pub words_at_place : HasWords total (get_or code at d)
@@ -78,11 +78,11 @@ module _ (code : List Instr) (total : ℕ) (kept : IsVerified code total) (s s' 
   leads_nearer (i.Next address kind step last back) is t c w h =
       let there = reach_there (length s.words) address 0 (i.Next address kind step last back) refl w in
       elim h.leads as (λ _. potential code s'.words s'.index < potential code s.words s.index) [
-          inl e ↦ forward code total kept s.words s'.words s.index s'.index (i.Next address kind step last back) (omega (arith, e)) is h.same
+        | inl e ↦ forward code total kept s.words s'.words s.index s'.index (i.Next address kind step last back) (omega (arith, e)) is h.same
         | inr e ↦
             let new = ap (λ l. read l address kind) e.2 ∙ turned_read kind step last s.words address (omega (arith, there)) c.1 e.1 in
             subst (λ n. potential code s'.words n < potential code s.words s.index) (sym e.0)
-                (backward code total kept s.words s.index address kind step last back is s'.words h.same c t e.1 new)
+            (backward code total kept s.words s.index address kind step last back is s'.words h.same c t e.1 new)
       ]
   leads_nearer instr is t c w h =
       forward code total kept s.words s'.words s.index s'.index instr (omega (arith, h.leads)) is h.same
@@ -98,9 +98,9 @@ module _ (code : List Instr) (total : ℕ) (kept : IsVerified code total) (d : I
   pub step_depth : length s.stack ≡ depth_at code s.index → length s'.stack + takes instr ≡ length s.stack + gives instr → length s'.stack ≡ depth_at code s'.index
   step_depth now count =
       leads_depth code total kept s s' instr (instr_at code total kept s.index d here) (target_at_place code total kept s.index d here)
-          (depth_at_place code total kept s.index d here) here now count (depth_more code s.index d here) went.leads
+      (depth_at_place code total kept s.index d here) here now count (depth_more code s.index d here) went.leads
 
   pub step_nearer : potential code s'.words s'.index < potential code s.words s.index
   step_nearer =
       leads_nearer code total kept s s' instr (instr_at code total kept s.index d here) (target_at_place code total kept s.index d here)
-          (constants_at_place code total kept s.index d here) (subst (λ n. HasWords n instr) (sym sized) (words_at_place code total kept s.index d here)) went
+      (constants_at_place code total kept s.index d here) (subst (λ n. HasWords n instr) (sym sized) (words_at_place code total kept s.index d here)) went

@@ -23,16 +23,16 @@ module _ (dt : ℤ) (index : ℕ) (stack words : List ℤ) (flag : Bool) (stores
   next_left past =
       let sum = read words address kind +ℤ step in
       ap (λ (b : Bool). Some (if b then onward here stack else record (store here address sum) { index = back }))
-          (sym (past_of b step step' last last' sum sum' is e f g) ∙ past)
+      (sym (past_of b step step' last last' sum sum' is e f g) ∙ past)
 
   pub next_back : (words' : List ℤ) (stores' : List (ℕ × ℤ)) → b ≡ false → words' ≡ slice_set words address sum' → stores' ≡ noted address (slice_index_or words address (pos 0)) stores
       → does dt (i.Next address kind step last back) here ≡ Some (record { index = back; stack = stack; words = words'; flag = flag; stores = stores' })
   next_back words' stores' go w t =
       let sum = read words address kind +ℤ step in
       ap (λ (b : Bool). Some (if b then onward here stack else record (store here address sum) { index = back }))
-          (sym (past_of b step step' last last' sum sum' is e f g) ∙ go)
+      (sym (past_of b step step' last last' sum sum' is e f g) ∙ go)
       ∙ (ap (λ (l : List ℤ). let s : State = record { index = back; stack = stack; words = l; flag = flag; stores = noted address (slice_index_or words address (pos 0)) stores } in Some s)
-            (ap (slice_set words address) (sym g) ∙ sym w)
+      (ap (slice_set words address) (sym g) ∙ sym w)
       ∙ ap (λ (l : List (ℕ × ℤ)). let s : State = record { index = back; stack = stack; words = words'; flag = flag; stores = l } in Some s) (sym t))
 
 -- a store at an element
@@ -47,13 +47,13 @@ module _ (address : ℕ) (kind : Kind) (low high : ℤ) (stack mid rest words wo
       let bound = bounded low high x in
       let same : index ≡ bound = is_index ∙ (ap (λ z. bounded z high' x') el ∙ (ap (λ z. bounded low z x') eh ∙ ap (λ z. bounded low high z) ex)) in
       let spot : place ≡ element address low bound.value =
-          is_place ∙ (ap (λ z. element address z i') el ∙ ap (λ z. element address low z) (ei ∙ ap (λ (c : Computed). c.value) same)) in
+      is_place ∙ (ap (λ z. element address z i') el ∙ ap (λ z. element address low z) (ei ∙ ap (λ (c : Computed). c.value) same)) in
       let put : d' ≡ clamped kind v = ed ∙ (is_value ∙ ap (clamped kind) ev) in
       let done : List ℤ → Bool → List (ℕ × ℤ) → Option State =
-          λ l f p. let s : State = record { index = at + 1; stack = rest; words = l; flag = f; stores = p } in Some s in
+      λ l f p. let s : State = record { index = at + 1; stack = rest; words = l; flag = f; stores = p } in Some s in
       ap (λ l. stored_at (start l) address kind low high l) (top ∙ ap (λ l. v ∷ l) under)
       ∙ (ap (λ l. done l (before || bound.flag) (noted (element address low bound.value) (slice_index_or words (element address low bound.value) (pos 0)) stores))
-            (ap (slice_set words (element address low bound.value)) (sym put) ∙ (ap (λ p. slice_set words p d') (sym spot) ∙ sym w))
+      (ap (slice_set words (element address low bound.value)) (sym put) ∙ (ap (λ p. slice_set words p d') (sym spot) ∙ sym w))
       ∙ (ap (λ p. done words' (before || bound.flag) p) (ap (λ p. noted p (slice_index_or words p (pos 0)) stores) (sym spot) ∙ sym t)
       ∙ ap (λ (c : Computed). done words' (before || c.flag) stores') (sym same)))
 
@@ -61,7 +61,7 @@ module _ (address : ℕ) (kind : Kind) (low high : ℤ) (stack mid rest words wo
   pub stored_element : (dt : ℤ) (at : ℕ) (flag flag' raised : Bool) (low' high' : ℤ) → low' ≡ low → high' ≡ high
       → StoresAt address kind low' high' stack words stores rest words' raised stores' → flag' ≡ flag || raised
       → does dt (i.StoreAt address kind low high) (record { index = at; stack = stack; words = words; flag = flag; stores = stores })
-          ≡ Some (record { index = at + 1; stack = rest; words = words'; flag = flag'; stores = stores' })
+      ≡ Some (record { index = at + 1; stack = rest; words = words'; flag = flag'; stores = stores' })
   stored_element dt at flag flag' raised low' high' el eh h raise =
       let s : State = record { index = at; stack = stack; words = words; flag = flag; stores = stores } in
       ap (λ z. stored_at s address kind z high stack) (sym el) ∙ (ap (λ z. stored_at s address kind low' z stack) (sym eh)

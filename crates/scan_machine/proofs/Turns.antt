@@ -70,7 +70,7 @@ distance_le : (step last v : ℤ) → (negsuc 2147483647 ≤ℤ v) × (v ≤ℤ 
     → distance step last v ≤ 4294967295
 distance_le step last v h k =
     if_le (int_lt (pos 0) step) (natural (last -ℤ v)) (natural (v -ℤ last)) 4294967295
-        (natural_le (last -ℤ v) 4294967295 (omega (arith, ints, h.0, h.1, k.0, k.1))) (natural_le (v -ℤ last) 4294967295 (omega (arith, ints, h.0, h.1, k.0, k.1)))
+    (natural_le (last -ℤ v) 4294967295 (omega (arith, ints, h.0, h.1, k.0, k.1))) (natural_le (v -ℤ last) 4294967295 (omega (arith, ints, h.0, h.1, k.0, k.1)))
 
 -- one turn brings it nearer
 nearer : (up : Bool) (step last v : ℤ) → int_lt (pos 0) step ≡ up → step ≢ pos 0 → (if up then int_lt last (v +ℤ step) else int_lt (v +ℤ step) last) ≡ false
@@ -122,7 +122,7 @@ potential code words index = value (digit code words index) (length code)
 digit_of-le : (words : List ℤ) (index : ℕ) (instr : Instr) → HasConstants instr → digit_of words index instr ≤ 4294967296
 digit_of-le words index (i.Next address kind step last back) h =
     let d : distance step last (read words address kind) ≤ 4294967295 =
-        distance_le step last (read words address kind) (within_dint kind (read words address kind) (clamped-of kind (slice_index_or words address (pos 0)))) (within_dint kind last h.1) in
+    distance_le step last (read words address kind) (within_dint kind (read words address kind) (clamped-of kind (slice_index_or words address (pos 0)))) (within_dint kind last h.1) in
     if_le (nat_le back index) (distance step last (read words address kind) + 1) 4294967296 4294967296 (omega arith) (omega arith)
 digit_of-le words index _ h = omega arith
 
@@ -137,19 +137,19 @@ digit_of-stays : (words words' : List ℤ) (index index' : ℕ) (instr : Instr) 
 digit_of-stays words words' index index' (i.Next address kind step last back) h stays =
     let D : ℕ → Type 0 = λ n. digit_of words' index' (i.Next address kind step last back) ≤ n in
     elim (cases_lt index back) as (λ _. digit_of words' index' (i.Next address kind step last back) ≤ digit_of words index (i.Next address kind step last back)) [
-        inl closed ↦
-            let e : nat_le back index ≡ false = lt-leb back index closed in
-            subst (λ (b : Bool). D (if b then distance step last (read words address kind) + 1 else 4294967296)) (sym e) (digit_of-le words' index' (i.Next address kind step last back) h)
+      | inl closed ↦
+          let e : nat_le back index ≡ false = lt-leb back index closed in
+          subst (λ (b : Bool). D (if b then distance step last (read words address kind) + 1 else 4294967296)) (sym e) (digit_of-le words' index' (i.Next address kind step last back) h)
       | inr here ↦
-            let e : nat_le back index ≡ true = le-leb back index here in
-            let e' : nat_le back index' ≡ true = le-leb back index' (stays here).0 in
-            let same : distance step last (read words' address kind) + 1 ≡ distance step last (read words address kind) + 1 =
-                ap (λ v. distance step last (clamped kind v) + 1) (stays here).1 in
-            let left : digit_of words index (i.Next address kind step last back) ≡ distance step last (read words address kind) + 1 =
-                ap (λ (b : Bool). if b then distance step last (read words address kind) + 1 else 4294967296) e in
-            let left' : digit_of words' index' (i.Next address kind step last back) ≡ distance step last (read words' address kind) + 1 =
-                ap (λ (b : Bool). if b then distance step last (read words' address kind) + 1 else 4294967296) e' in
-            omega (arith, same, left, left')
+          let e : nat_le back index ≡ true = le-leb back index here in
+          let e' : nat_le back index' ≡ true = le-leb back index' (stays here).0 in
+          let same : distance step last (read words' address kind) + 1 ≡ distance step last (read words address kind) + 1 =
+          ap (λ v. distance step last (clamped kind v) + 1) (stays here).1 in
+          let left : digit_of words index (i.Next address kind step last back) ≡ distance step last (read words address kind) + 1 =
+          ap (λ (b : Bool). if b then distance step last (read words address kind) + 1 else 4294967296) e in
+          let left' : digit_of words' index' (i.Next address kind step last back) ≡ distance step last (read words' address kind) + 1 =
+          ap (λ (b : Bool). if b then distance step last (read words' address kind) + 1 else 4294967296) e' in
+          omega (arith, same, left, left')
     ]
 digit_of-stays words words' index index' _ h stays = omega arith
 
@@ -191,8 +191,8 @@ module _ (code : List Instr) (total : ℕ) (kept : IsVerified code total) where
   bound : (words : List ℤ) (index at : ℕ) → at < length code → digit code words index at < 4294967297
   bound words index at within =
       let d : digit code words index at ≤ 4294967296 =
-          if_le (nat_lt at index) 0 (digit_of words index (get_or code at i.Limit)) 4294967296 (omega arith)
-              (digit_of-le words index (get_or code at i.Limit) (constants at within)) in
+      if_le (nat_lt at index) 0 (digit_of words index (get_or code at i.Limit)) 4294967296 (omega arith)
+      (digit_of-le words index (get_or code at i.Limit) (constants at within)) in
       omega arith
 
   -- a digit of a later place does not rise
@@ -200,8 +200,8 @@ module _ (code : List Instr) (total : ℕ) (kept : IsVerified code total) where
       → digit code words' index' at ≤ digit code words index at
   later words words' index index' at over within stays =
       subst (λ n. digit code words' index' at ≤ n) (sym (digit-ahead code words index at over))
-          (if_le (nat_lt at index') 0 (digit_of words' index' (get_or code at i.Limit)) (digit_of words index (get_or code at i.Limit)) (omega arith)
-              (digit_of-stays words words' index index' (get_or code at i.Limit) (constants at within) stays))
+      (if_le (nat_lt at index') 0 (digit_of words' index' (get_or code at i.Limit)) (digit_of words index (get_or code at i.Limit)) (omega arith)
+      (digit_of-stays words words' index index' (get_or code at i.Limit) (constants at within) stays))
 
   -- forward
   stays_forward : (words words' : List ℤ) (index index' at : ℕ) (instr here : Instr) → index ≤ index' → index < at → slice_get code index ≡ Some instr
@@ -216,14 +216,14 @@ module _ (code : List Instr) (total : ℕ) (kept : IsVerified code total) where
   forward words words' index index' instr on is same =
       let within : index < length code = slice_get_within code index instr is in
       let falls : digit code words' index' index < digit code words index index =
-          let now = digit-passed code words' index' index on in
-          let before = digit-ahead code words index index (omega arith) in
-          let some = digit_of-some words index (get_or code index i.Limit) in
-          omega (arith, now, before, some) in
+      let now = digit-passed code words' index' index on in
+      let before = digit-ahead code words index index (omega arith) in
+      let some = digit_of-some words index (get_or code index i.Limit) in
+      omega (arith, now, before, some) in
       value_less (digit code words' index') (digit code words index) (length code) index within falls
-          (λ k over under. later words words' index index' k (omega arith) under
-              (stays_forward words words' index index' k instr (get_or code k i.Limit) (omega arith) over is same (loop k under)))
-          (λ k under. bound words' index' k under)
+      (λ k over under. later words words' index index' k (omega arith) under
+      (stays_forward words words' index index' k instr (get_or code k i.Limit) (omega arith) over is same (loop k under)))
+      (λ k under. bound words' index' k under)
 
   -- back
   module _ (words : List ℤ) (index address : ℕ) (kind : Kind) (step last : ℤ) (back : ℕ)
@@ -234,8 +234,10 @@ module _ (code : List Instr) (total : ℕ) (kept : IsVerified code total) where
     stays_back : (words' : List ℤ) (at : ℕ) (here : Instr) → index < at → Unchanged words words' turn → HasLoop code at here → StaysOpen words words' index back here
     stays_back words' at (i.Next address' kind' step' last' back') over same alone =
         let nest = (alone index turn over is).1 in
-        λ from. (starts_from (length code) back' at index turn over from (target index turn is) nest,
-            same address' (λ lies. (alone index turn over is).0 from lies))
+        λ from. (
+          starts_from (length code) back' at index turn over from (target index turn is) nest,
+          same address' (λ lies. (alone index turn over is).0 from lies),
+        )
     stays_back words' at _ over same alone = tt
 
     pub backward : (words' : List ℤ) → Unchanged words words' turn → HasConstants turn → back ≤ index
@@ -247,14 +249,14 @@ module _ (code : List Instr) (total : ℕ) (kept : IsVerified code total) where
         let here : get_or code index i.Limit ≡ turn = get_or_from_slice_get code index turn i.Limit is in
         let v = read words address kind in
         let left : digit code words index index ≡ distance step last v + 1 =
-            digit-ahead code words index index (omega arith) ∙ (ap (digit_of words index) here
-                ∙ ap (λ (b : Bool). if b then distance step last v + 1 else 4294967296) (le-leb back index on)) in
+        digit-ahead code words index index (omega arith) ∙ (ap (digit_of words index) here
+        ∙ ap (λ (b : Bool). if b then distance step last v + 1 else 4294967296) (le-leb back index on)) in
         let left' : digit code words' back index ≡ distance step last (v +ℤ step) + 1 =
-            digit-ahead code words' back index on ∙ (ap (digit_of words' back) here
-                ∙ (ap (λ (b : Bool). if b then distance step last (read words' address kind) + 1 else 4294967296) (le-leb back back (omega arith))
-                ∙ ap (λ z. distance step last z + 1) new)) in
+        digit-ahead code words' back index on ∙ (ap (digit_of words' back) here
+        ∙ (ap (λ (b : Bool). if b then distance step last (read words' address kind) + 1 else 4294967296) (le-leb back back (omega arith))
+        ∙ ap (λ z. distance step last z + 1) new)) in
         let near : distance step last (v +ℤ step) < distance step last v = nearer (int_lt (pos 0) step) step last v refl consts.2 go in
         value_less (digit code words' back) (digit code words index) (length code) index within (omega (arith, left, left', near))
-            (λ k over under. later words words' index back k (omega arith) under
-                (stays_back words' k (get_or code k i.Limit) over same (loop k under)))
-            (λ k under. bound words' back k under)
+        (λ k over under. later words words' index back k (omega arith) under
+        (stays_back words' k (get_or code k i.Limit) over same (loop k under)))
+        (λ k under. bound words' back k under)

@@ -132,4 +132,4 @@ abbrev pub StoresAt : ℕ → Kind → ℤ → ℤ → List ℤ → List ℤ →
 StoresAt address kind low high stack words stores stack' words' flag stores' =
     (index : ℕ) → (before : Bool)
     → stored_at (record { index = index; stack = stack; words = words; flag = before; stores = stores }) address kind low high stack
-        ≡ Some (record { index = index + 1; stack = stack'; words = words'; flag = before || flag; stores = stores' })
+    ≡ Some (record { index = index + 1; stack = stack'; words = words'; flag = before || flag; stores = stores' })

@@ -78,8 +78,9 @@ read words address kind = clamped kind (slice_index_or words address (pos 0))
 -- a number stored at an address, and noted
 abbrev pub store : State → ℕ → ℤ → State
 store s address v = record s {
-    words = slice_set s.words address v;
-    stores = noted address (slice_index_or s.words address (pos 0)) s.stores }
+  words = slice_set s.words address v;
+  stores = noted address (slice_index_or s.words address (pos 0)) s.stores;
+}
 
 -- stores to the words from an address on, the lowest first
 abbrev pub noted_all : ℕ → List ℤ → List (ℕ × ℤ) → List (ℕ × ℤ)
@@ -139,8 +140,9 @@ abbrev pub called : State → BlockKind → ℕ → ℤ → State
 called s kind address dt =
     let fields = words_at s.words address (field_count kind) in
     record (onward s s.stack) {
-        words = with_words s.words address (after_call kind dt fields);
-        stores = noted_all address fields s.stores }
+      words = with_words s.words address (after_call kind dt fields);
+      stores = noted_all address fields s.stores;
+    }
 
 -- one instruction, `dt` milliseconds after the last run; none where an operand lacks
 abbrev pub does : ℤ → Instr → State → Option State

@@ -20,8 +20,8 @@ mod timers;
 pub mod verified;
 
 pub use crate::blocks::{BlockKind, step_block};
-pub use crate::instructions::Instr;
 pub use crate::counting::Steps;
+pub use crate::instructions::Instr;
 pub use crate::kinds::Kind;
 pub use crate::running::run;
 pub use crate::verified::{BadCode, Code, CodeRule};

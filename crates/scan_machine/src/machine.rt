@@ -69,7 +69,10 @@ pub(crate) fn step(
             low,
             high,
         } => {
-            raise(flag, store_at(address, kind, low, high, words, touched, stack));
+            raise(
+                flag,
+                store_at(address, kind, low, high, words, touched, stack),
+            );
             index + 1
         }
         Instr::Jump(target) => target,

@@ -152,13 +152,7 @@ fn ternary(instr: &Instr, x: i64, y: i64, z: i64) -> Computed
 {
     match instr {
         Instr::Limit => plain(limited(x, y, z)),
-        Instr::Select => {
-            if is_on(x) {
-                plain(z)
-            } else {
-                plain(y)
-            }
-        }
+        Instr::Select => { if is_on(x) { plain(z) } else { plain(y) } }
         _ => unreachable!(),
     }
 }

@@ -34,8 +34,8 @@ load_at-requires-clause-place c =
     let el : to_z w64 (of_z w64 n.low) ≡ n.low = omega (arith, ints) in
     let eh : to_z w64 (of_z w64 n.high) ≡ n.high = omega (arith, ints) in
     subst (λ z. n.address + unsigned_abs (z -ℤ to_z w64 (of_z w64 n.low)) < length c.args.words.now) (sym eh)
-        (subst (λ z. n.address + unsigned_abs (n.high -ℤ z) < length c.args.words.now) (sym el)
-            (array_there (length c.args.words.now) n.address n.low n.high c.args.instr.now bounds.0 (ap reach n.is) c.requires.words))
+    (subst (λ z. n.address + unsigned_abs (n.high -ℤ z) < length c.args.words.now) (sym el)
+    (array_there (length c.args.words.now) n.address n.low n.high c.args.instr.now bounds.0 (ap reach n.is) c.requires.words))
 
 pub store_at-requires-clause-place : goal.store_at-requires-clause-place
 store_at-requires-clause-place c =
@@ -44,8 +44,8 @@ store_at-requires-clause-place c =
     let el : to_z w64 (of_z w64 n.low) ≡ n.low = omega (arith, ints) in
     let eh : to_z w64 (of_z w64 n.high) ≡ n.high = omega (arith, ints) in
     subst (λ z. n.address + unsigned_abs (z -ℤ to_z w64 (of_z w64 n.low)) < length c.args.words.now) (sym eh)
-        (subst (λ z. n.address + unsigned_abs (n.high -ℤ z) < length c.args.words.now) (sym el)
-            (array_there (length c.args.words.now) n.address n.low n.high c.args.instr.now bounds.0 (ap reach n.is) c.requires.words))
+    (subst (λ z. n.address + unsigned_abs (n.high -ℤ z) < length c.args.words.now) (sym el)
+    (array_there (length c.args.words.now) n.address n.low n.high c.args.instr.now bounds.0 (ap reach n.is) c.requires.words))
 
 pub offset_bounds-words-address-in-Next : goal.offset_bounds-words-address-in-Next
 offset_bounds-words-address-in-Next c =
@@ -71,9 +71,10 @@ pub operate-requires : goal.operate-requires
 operate-requires c =
     let n = c.in_default in
     record {
-        kind = is_operation c.args.instr.now n.not-Push n.not-Load n.not-Store n.not-LoadAt n.not-StoreAt n.not-Jump n.not-JumpFalse n.not-Next n.not-Call;
-        operands = c.requires.operands;
-        room = c.requires.held }
+      kind = is_operation c.args.instr.now n.not-Push n.not-Load n.not-Store n.not-LoadAt n.not-StoreAt n.not-Jump n.not-JumpFalse n.not-Next n.not-Call;
+      operands = c.requires.operands;
+      room = c.requires.held;
+    }
 
 pub returns-in-StoreAt-clause-value : goal.returns-in-StoreAt-clause-value
 returns-in-StoreAt-clause-value c =
@@ -83,7 +84,7 @@ returns-in-StoreAt-clause-value c =
     let s : State = record { index = c.args.index; stack = c.args.stack.now; words = c.args.words.now; flag = c.args.flag.now; stores = c.args.touched.now.pairs } in
     ap (λ (m : Instr). does c.args.dt m s) n.is
     ∙ stored_element n.address n.kind n.low n.high c.args.stack.now [] done.new.stack c.args.words.now done.new.words c.args.touched.now.pairs done.new.touched.pairs (pos 0) (pos 0)
-        c.args.dt c.args.index c.args.flag.now c.raise-in-StoreAt.new.flag done.result (to_z w64 (of_z w64 n.low)) (to_z w64 (of_z w64 n.high)) el eh done.ensures.value c.raise-in-StoreAt.ensures
+    c.args.dt c.args.index c.args.flag.now c.raise-in-StoreAt.new.flag done.result (to_z w64 (of_z w64 n.low)) (to_z w64 (of_z w64 n.high)) el eh done.ensures.value c.raise-in-StoreAt.ensures
 
 pub returns-then-is_past-clause-value : goal.returns-then-is_past-clause-value
 returns-then-is_past-clause-value c =
@@ -99,7 +100,7 @@ returns-then-is_past-clause-value c =
     let s : State = record { index = c.args.index; stack = c.args.stack.now; words = c.args.words.now; flag = c.args.flag.now; stores = c.args.touched.now.pairs } in
     ap (λ (m : Instr). does c.args.dt m s) n.is
     ∙ next_left c.args.dt c.args.index c.args.stack.now c.args.words.now c.args.flag.now c.args.touched.now.pairs n.address n.kind n.step n.last n.back
-        c.is_past.result _ _ _ c.is_past.ensures e f (g ∙ ap (λ z. z +ℤ n.step) is) c.if-is_past.true
+    c.is_past.result _ _ _ c.is_past.ensures e f (g ∙ ap (λ z. z +ℤ n.step) is) c.if-is_past.true
 
 pub returns-else-is_past-clause-value : goal.returns-else-is_past-clause-value
 returns-else-is_past-clause-value c =
@@ -115,5 +116,5 @@ returns-else-is_past-clause-value c =
     let s : State = record { index = c.args.index; stack = c.args.stack.now; words = c.args.words.now; flag = c.args.flag.now; stores = c.args.touched.now.pairs } in
     ap (λ (m : Instr). does c.args.dt m s) n.is
     ∙ next_back c.args.dt c.args.index c.args.stack.now c.args.words.now c.args.flag.now c.args.touched.now.pairs n.address n.kind n.step n.last n.back
-        c.is_past.result _ _ _ c.is_past.ensures e f (g ∙ ap (λ z. z +ℤ n.step) is)
-        put.new.words put.new.touched.pairs c.if-is_past.false put.ensures.words (ap (λ (t : TouchedValue). t.pairs) put.ensures.touched)
+    c.is_past.result _ _ _ c.is_past.ensures e f (g ∙ ap (λ z. z +ℤ n.step) is)
+    put.new.words put.new.touched.pairs c.if-is_past.false put.ensures.words (ap (λ (t : TouchedValue). t.pairs) put.ensures.touched)

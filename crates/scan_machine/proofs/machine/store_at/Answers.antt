@@ -16,7 +16,7 @@ returns-clause-value c =
     let ei : to_z w64 (of_z w64 index.value) ≡ index.value = omega (arith, ints) in
     let ed : to_z w64 (of_z w64 value) ≡ value = omega (arith, ints) in
     stores_at c.args.address c.args.kind low high c.args.stack.now c.pop.new.self c.pop-2.new.self c.args.words.now c.store.new.words
-        c.args.touched.now.pairs c.store.new.touched.pairs v x
-        (p v) (p x) (p low) (p high) (p index.value) (p value) value index c.element.result
-        c.pop.ensures.top c.pop-2.ensures.top ev ex el eh ei ed c.clamp_to-value.ensures.value c.bounded-index.ensures.value c.element.ensures
-        c.store.ensures.words (ap (λ (t : TouchedValue). t.pairs) c.store.ensures.touched)
+    c.args.touched.now.pairs c.store.new.touched.pairs v x
+    (p v) (p x) (p low) (p high) (p index.value) (p value) value index c.element.result
+    c.pop.ensures.top c.pop-2.ensures.top ev ex el eh ei ed c.clamp_to-value.ensures.value c.bounded-index.ensures.value c.element.ensures
+    c.store.ensures.words (ap (λ (t : TouchedValue). t.pairs) c.store.ensures.touched)

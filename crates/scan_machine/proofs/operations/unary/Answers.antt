@@ -20,6 +20,6 @@ returns-in-Within-clause-value c below =
     let f : high ≡ passed high = omega (arith, ints) in
     ap (λ (n : Instr). operate n (x ∷ below)) c.in-Within.is
     ∙ (ap (λ (b : Bool). answer b below)
-          (ap (λ v. int_le low v && int_le v high) (sym (passed-same x c.requires.x)) ∙ (ap (λ v. int_le v (passed x) && int_le (passed x) high) e
-              ∙ (ap (λ v. int_le (passed low) (passed x) && int_le (passed x) v) f ∙ sym c.lies.ensures)))
-       ∙ c.truth-in-Within.ensures.value below)
+    (ap (λ v. int_le low v && int_le v high) (sym (passed-same x c.requires.x)) ∙ (ap (λ v. int_le v (passed x) && int_le (passed x) high) e
+    ∙ (ap (λ v. int_le (passed low) (passed x) && int_le (passed x) v) f ∙ sym c.lies.ensures)))
+    ∙ c.truth-in-Within.ensures.value below)
