@@ -8,6 +8,8 @@ mod memory;
 mod name;
 mod number;
 mod point;
+#[cfg(test)]
+mod tests;
 mod text;
 mod touched;
 mod voted;

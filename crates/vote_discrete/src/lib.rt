@@ -1,0 +1,42 @@
+//! The vote of three discrete readings.
+#![tactic(auto)]
+
+ghost use Rattle.std.specs.Prelude.{◌≡◌, false, []};
+ghost use Rattle.vote_discrete.specs.Majority.{majority, present, dissenters, TwoEqualWin, OneAloneDecides};
+
+use tri_base::Triple;
+
+/// The value that two of three readings have; of two readings TRUE only where both are; of one that
+/// one; of none FALSE. A reading of None is absent.
+pub fn vote(readings: Triple<Option<bool>>) -> bool
+    ensures majority { result ≡ majority (present readings) }
+    ensures two_equal_win { TwoEqualWin readings result }
+    ensures one_alone_decides { OneAloneDecides readings result }
+    ensures none_is_false { present readings ≡ [] → result ≡ false }
+{
+    match (readings.a, readings.b, readings.c) {
+        (Some(a), Some(b), Some(c)) => (a && b) || (b && c) || (c && a),
+        (Some(a), Some(b), None) => a && b,
+        (Some(a), None, Some(c)) => a && c,
+        (None, Some(b), Some(c)) => b && c,
+        (Some(a), None, None) => a,
+        (None, Some(b), None) => b,
+        (None, None, Some(c)) => c,
+        (None, None, None) => false,
+    }
+}
+
+/// TRUE for each leg whose reading is absent or differs from the vote.
+pub fn dissent(readings: Triple<Option<bool>>) -> Triple<bool>
+    ensures { result ≡ dissenters readings }
+{
+    let voted = vote(readings);
+    Triple {
+        a: readings.a != Some(voted),
+        b: readings.b != Some(voted),
+        c: readings.c != Some(voted),
+    }
+}
+
+#[cfg(test)]
+mod tests;
