@@ -13,6 +13,7 @@ pub enum Kind {
 }
 
 /// The value of the kind that is nearest to a number; for BOOL, whether the number isn't 0.
+#[inline]
 pub fn clamp_to(kind: Kind, value: i64) -> i64
     ensures value { result ≡ clamped kind value }
     ensures operand { IsOperand result }
@@ -25,6 +26,7 @@ pub fn clamp_to(kind: Kind, value: i64) -> i64
 }
 
 /// Whether a number counts as TRUE.
+#[inline]
 pub(crate) fn is_on(value: i64) -> bool
     ensures { result ≡ is_on value }
 {

@@ -25,3 +25,6 @@ pub use crate::instructions::Instr;
 pub use crate::kinds::Kind;
 pub use crate::running::run;
 pub use crate::verified::{BadCode, Code, CodeRule};
+
+#[cfg(test)]
+mod tests;

@@ -18,6 +18,7 @@ use crate::stack::Operands;
 use tri_base::Touched;
 
 /// Does one instruction, and says which one comes next.
+#[inline(always)]
 pub(crate) fn step(
     instr: &Instr,
     dt: i64,
@@ -110,6 +111,7 @@ pub(crate) fn step(
 }
 
 // Raises the flag where a number was clamped.
+#[inline(always)]
 fn raise(flag: &mut bool, clamped: bool)
     ensures { flag.new ≡ flag.old || clamped }
 {
@@ -164,6 +166,7 @@ fn store_at(
 }
 
 // Stores a number, and notes it.
+#[inline(always)]
 fn store(words: &mut [i64], touched: &mut Touched, address: usize, value: i64)
     requires place { address < length words.old }
     requires size { length words.old ≤ touched.old.size }

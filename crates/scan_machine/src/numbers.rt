@@ -14,6 +14,7 @@ pub(crate) struct Computed {
 }
 
 /// A computed number, clamped to the kind with a flag.
+#[inline]
 pub(crate) fn exact(kind: Kind, value: i64) -> Computed
     ensures value { result ≡ exact kind value }
     ensures operand { IsOperand result.value }
@@ -74,6 +75,7 @@ pub(crate) fn bounded(low: i64, high: i64, index: i64) -> Computed
 }
 
 /// Whether a sum is past the last value, in the direction of the step.
+#[inline]
 pub(crate) fn is_past(step: i64, last: i64, sum: i64) -> bool
     ensures { result ≡ is_past step last sum }
 {

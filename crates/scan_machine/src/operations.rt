@@ -15,6 +15,7 @@ use crate::numbers::{Computed, exact, quotient, remainder};
 use crate::stack::Operands;
 
 /// Does an instruction that works on operands alone, and says whether a number was clamped.
+#[inline]
 pub(crate) fn operate(instr: &Instr, stack: &mut Operands) -> bool
     requires kind { IsOperation instr.now }
     requires operands { takes instr.now ≤ length stack.old }
@@ -42,6 +43,7 @@ pub(crate) fn operate(instr: &Instr, stack: &mut Operands) -> bool
 }
 
 // Pushes a computed number, and says whether it was clamped.
+#[inline]
 fn push_computed(stack: &mut Operands, computed: Computed) -> bool
     requires room { length stack.old + 1 ≤ 1024 }
     requires operand { IsOperand computed.value }
@@ -53,6 +55,7 @@ fn push_computed(stack: &mut Operands, computed: Computed) -> bool
 }
 
 // What two operands give.
+#[inline]
 fn binary(instr: &Instr, x: i64, y: i64) -> Computed
     requires kind { IsBinary instr.now }
     requires x { IsOperand x }
@@ -68,6 +71,7 @@ fn binary(instr: &Instr, x: i64, y: i64) -> Computed
 }
 
 // A number of two operands.
+#[inline]
 fn arithmetic(instr: &Instr, x: i64, y: i64) -> Computed
     requires kind { IsArithmetic instr.now }
     requires x { IsOperand x }
@@ -88,6 +92,7 @@ fn arithmetic(instr: &Instr, x: i64, y: i64) -> Computed
 }
 
 // Whether two operands are as the instruction asks.
+#[inline]
 fn holds(instr: &Instr, x: i64, y: i64) -> bool
     requires { IsTest instr.now }
     ensures { (below : List ℤ) → operate instr.now (y ∷ x ∷ below) ≡ answer result below }
@@ -107,6 +112,7 @@ fn holds(instr: &Instr, x: i64, y: i64) -> bool
 }
 
 // A number of one operand.
+#[inline]
 fn unary(instr: &Instr, x: i64) -> Computed
     requires kind { IsUnary instr.now }
     requires x { IsOperand x }
@@ -131,6 +137,7 @@ fn lies(low: i64, x: i64, high: i64) -> bool
 }
 
 // 1 or 0.
+#[inline]
 fn truth(value: bool) -> Computed
     ensures value { (below : List ℤ) → answer value below ≡ on_top result below }
     ensures operand { IsOperand result.value }
@@ -142,6 +149,7 @@ fn truth(value: bool) -> Computed
 }
 
 // A number of three operands.
+#[inline]
 fn ternary(instr: &Instr, x: i64, y: i64, z: i64) -> Computed
     requires kind { IsTernary instr.now }
     requires x { IsOperand x }

@@ -41,6 +41,7 @@ impl Operands {
     }
 
     /// One more operand.
+    #[inline]
     pub fn push(&mut self, value: i64)
         requires room { length self.old < 1024 }
         requires operand { IsOperand value }
@@ -50,6 +51,7 @@ impl Operands {
     }
 
     /// The operand on top.
+    #[inline]
     pub fn pop(&mut self) -> i64
         requires { 0 < length self.old }
         ensures top { self.old ≡ result ∷ self.new }
