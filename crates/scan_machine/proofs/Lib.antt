@@ -11,3 +11,5 @@ pub mod Turning
 pub mod Moves
 pub mod Stays
 pub mod Ran
+pub mod OneRun
+pub mod Storing

@@ -35,7 +35,7 @@ pub record Went (instr : Instr) (s s' : State) : Type 0 where
 
 -- ---- a store leaves the others
 
-set_other : (words : List ℤ) (address word : ℕ) (v : ℤ) → (address ≡ word → ⊥) → slice_index_or (slice_set words address v) word (pos 0) ≡ slice_index_or words word (pos 0)
+pub set_other : (words : List ℤ) (address word : ℕ) (v : ℤ) → (address ≡ word → ⊥) → slice_index_or (slice_set words address v) word (pos 0) ≡ slice_index_or words word (pos 0)
 set_other words address word v differ = get_or-set_other words address word v (pos 0) (λ e. differ (sym e))
 
 one_reach : (address word : ℕ) → (Lies word (Some (address, 0)) → ⊥) → address ≡ word → ⊥
@@ -50,7 +50,7 @@ element_lies address low high x up =
     let near : unsigned_abs (index -ℤ low) ≤ unsigned_abs (high -ℤ low) = omega (arith, ints) in
     subst (λ (b : Bool). Lies (element address low index) (if b then Some (address, unsigned_abs (high -ℤ low)) else None)) (sym e) (omega arith, omega arith)
 
-words_other : (words new : List ℤ) (address word : ℕ) → address + length new ≤ length words → (word < address) ⊎ (address + length new ≤ word)
+pub words_other : (words new : List ℤ) (address word : ℕ) → address + length new ≤ length words → (word < address) ⊎ (address + length new ≤ word)
     → slice_index_or (with_words words address new) word (pos 0) ≡ slice_index_or words word (pos 0)
 words_other words new address word within (inl below) =
     let there : length (take address words) ≡ address = omega (arith, length-take address words) in

@@ -5,3 +5,4 @@ pub mod Checks
 pub mod Numbers
 pub mod Machine
 pub mod Codes
+pub mod Laws

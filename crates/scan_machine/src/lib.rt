@@ -10,6 +10,7 @@ mod fields;
 pub mod instructions;
 pub mod kinds;
 mod latches;
+pub mod laws;
 mod machine;
 mod numbers;
 mod operations;
