@@ -1,5 +1,5 @@
 -- The rule on loops, as it is asked of one Next.
-use Rattle.std.proofs.Common.{◌≡◌, ℕ, ◌+◌, ◌<◌, ◌≤◌, ◌↔◌, ◌⊎◌, ℤ, Bool, IsTrue, Option, Some, None, IfSome, List, length, get_or, slice_get, arith, sym, subst, inl, inr, refl}
+use Rattle.std.proofs.Common.{◌≡◌, ℕ, ◌+◌, ◌<◌, ◌≤◌, ◌↔◌, ℤ, Bool, IsTrue, Some, IfSome, List, length, get_or, slice_get, arith, sym, subst, inl, inr, refl}
 use Rattle.std.proofs.lemmas.Option.{get_or_from_slice_get, slice_get-get_or}
 use Rattle.std.proofs.lemmas.Bool.{cases_lt}
 use borrow.Author.Count.{below_more}

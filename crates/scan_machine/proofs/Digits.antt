@@ -1,5 +1,5 @@
 -- Numbers written in digits, the first digit being the least: one falls where a digit falls and none above it rises.
-use Rattle.std.proofs.Common.{◌≡◌, ℕ, zero, suc, ◌+◌, ◌*◌, ◌<◌, ◌≤◌, arith}
+use Rattle.std.proofs.Common.{ℕ, zero, suc, ◌+◌, ◌*◌, ◌<◌, ◌≤◌, arith}
 
 -- the number of the first n digits
 unfoldable pub value : (ℕ → ℕ) → ℕ → ℕ

@@ -1,12 +1,12 @@
 -- What is on the stack after an instruction that works on operands alone.
-use Rattle.std.proofs.Common.{◌≡◌, ℤ, pos, Bool, false, List, ◌∷◌, Option, Some, to_z, of_z, w64, arith, sym, ap, refl, ◌∙◌}
+use Rattle.std.proofs.Common.{◌≡◌, ℤ, Bool, List, ◌∷◌, Option, Some, to_z, of_z, w64, arith, sym, ap, refl, ◌∙◌}
 use Rattle.std.proofs.lemmas.Int.{ints}
 use Rattle.scan_machine.specs.declared.kinds.Kind.{Kind}
 use Rattle.scan_machine.specs.declared.numbers.Computed.{Computed}
 use Rattle.scan_machine.specs.declared.instructions.Instr.{Instr}
 use Rattle.scan_machine.specs.Values.{IsOperand}
 use Rattle.scan_machine.specs.Numbers.{exact}
-use Rattle.scan_machine.specs.Machine.{Left, operate, on_top, one_operand, answer}
+use Rattle.scan_machine.specs.Machine.{Left, operate, on_top}
 
 pub exact_on_top : (kind : Kind) (z z' : ℤ) (r : Computed) (below : List ℤ) → r ≡ exact kind z' → z' ≡ z → on_top (exact kind z) below ≡ on_top r below
 exact_on_top kind z z' r below e same = ap (λ c. on_top c below) (sym (e ∙ ap (exact kind) same))

@@ -1,5 +1,5 @@
 -- What one instruction leaves as it was, and where it leads.
-use Rattle.std.proofs.Common.{◌≡◌, ◌≢◌, ℕ, zero, suc, ◌+◌, ◌-◌, ◌<◌, ◌≤◌, ◌⊎◌, ℤ, pos, ◌+ℤ◌, ◌-ℤ◌, ◌≤ℤ◌, Bool, true, false, ◌||◌, if◌then◌else◌, Option, Some, None, IfSome, List, [], ◌∷◌, ◌++◌, length, take, drop, get_or, slice_get, arith, sym, subst, ap, ◌∙◌, refl, inl, inr, length-take, length-drop}
+use Rattle.std.proofs.Common.{◌≡◌, ℕ, ◌+◌, ◌-◌, ◌<◌, ◌≤◌, ◌⊎◌, ℤ, pos, ◌+ℤ◌, ◌-ℤ◌, ◌≤ℤ◌, Bool, true, false, ◌||◌, if◌then◌else◌, Option, Some, None, List, [], ◌∷◌, ◌++◌, length, take, drop, get_or, arith, sym, subst, ap, ◌∙◌, refl, inl, inr, length-take}
 use Rattle.std.specs.Prelude.{slice_index_or, slice_set, unsigned_abs}
 use Rattle.std.specs.Int.RustNames.{int_le}
 use Rattle.std.proofs.lemmas.Int.{ints, clamps}
@@ -15,8 +15,8 @@ use Rattle.scan_machine.specs.declared.instructions.Instr.TheVariants as i
 use Rattle.scan_machine.specs.Values.{is_on, clamped}
 use Rattle.scan_machine.specs.Blocks.{field_count, after_call}
 use Rattle.scan_machine.specs.Numbers.{bounded, element, is_past}
-use Rattle.scan_machine.specs.Rules.{Lies, array_reach, reach, store_reach, HasWords, HasConstants, AreBounds}
-use Rattle.scan_machine.specs.Machine.{State, Left, onward, store, operated, operate, load_at, stored, stored_at, chosen, turned, called, read, with_words, words_at, does}
+use Rattle.scan_machine.specs.Rules.{Lies, array_reach, HasWords, HasConstants}
+use Rattle.scan_machine.specs.Machine.{State, Left, onward, store, operated, operate, load_at, stored, stored_at, chosen, called, read, with_words, words_at, does}
 use Rattle.scan_machine.proofs.Calling.{length-after_call, fields_some}
 use Rattle.scan_machine.proofs.Reaches.{reach_there}
 use Rattle.scan_machine.proofs.Turns.{Unchanged}

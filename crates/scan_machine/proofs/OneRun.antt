@@ -1,11 +1,11 @@
 -- A run from given words and stores is the only one.
-use Rattle.std.proofs.Common.{◌≡◌, ℕ, zero, suc, ◌+◌, ◌-◌, ◌<◌, ◌≤◌, ◌⊎◌, ℤ, Bool, Option, Some, None, List, length, slice_get, arith, sym, subst, ap, ◌∙◌, refl, inl, inr}
+use Rattle.std.proofs.Common.{◌≡◌, ℕ, zero, suc, ◌+◌, ◌-◌, ◌<◌, ℤ, Some, None, List, length, slice_get, arith, sym, ap, ◌∙◌, refl, inl, inr}
 use Rattle.std.specs.Option.{option_and_then}
 use Rattle.std.proofs.lemmas.Option.{slice_get_past, same_Some, none-some}
 use Rattle.std.proofs.lemmas.Bool.{cases_lt}
 use Rattle.scan_machine.specs.declared.instructions.Instr.{Instr}
-use Rattle.scan_machine.specs.Machine.{State, does, next, after, at_start, at_end, Runs}
-use Rattle.scan_machine.specs.Laws.{SameRun, HasOneRun}
+use Rattle.scan_machine.specs.Machine.{State, does, next, after, at_start, at_end}
+use Rattle.scan_machine.specs.Laws.{HasOneRun}
 
 -- nothing comes after the end
 past_end : (code : List Instr) (dt : ℤ) (n k : ℕ) (s e : State) → after code dt n s ≡ Some e → e.index ≡ length code → after code dt (suc (k + n)) s ≡ None

@@ -1,11 +1,11 @@
 -- The states of a run, one after the other.
-use Rattle.std.proofs.Common.{◌≡◌, ℕ, zero, suc, ◌+◌, ◌<◌, ◌≤◌, ℤ, Bool, false, Option, Some, List, [], ◌∷◌, length, slice_get, arith, sym, subst, ap, ◌∙◌, refl}
+use Rattle.std.proofs.Common.{◌≡◌, ℕ, suc, ◌+◌, ◌≤◌, ℤ, Bool, false, Some, List, [], ◌∷◌, length, slice_get, arith, sym, subst, ap, ◌∙◌, refl}
 use Rattle.std.specs.Option.{option_and_then}
 use Rattle.scan_machine.specs.declared.instructions.Instr.{Instr}
 use Rattle.scan_machine.specs.declared.verified.CodeRule.TheVariants as rule
 use Rattle.scan_machine.specs.Rules.{depth_at, IsVerified}
 use Rattle.scan_machine.specs.Checks.{HaveDepths}
-use Rattle.scan_machine.specs.Machine.{State, does, next, after, at_start, at_end, Runs}
+use Rattle.scan_machine.specs.Machine.{State, does, next, after, at_start, Runs}
 use Rattle.scan_machine.proofs.Waiting.{depth_bound}
 
 nil_of : (l : List ℤ) → length l ≡ 0 → l ≡ []

@@ -1,5 +1,5 @@
 -- The words that an instruction can touch.
-use Rattle.std.proofs.Common.{◌≡◌, ℕ, ◌+◌, ◌<◌, ◌≤◌, ◌↔◌, ℤ, ◌-ℤ◌, ◌≤ℤ◌, Bool, true, IsTrue, if◌then◌else◌, Option, Some, None, arith, sym, ap, subst, refl, ◌∙◌}
+use Rattle.std.proofs.Common.{◌≡◌, ℕ, ◌+◌, ◌<◌, ◌↔◌, ℤ, ◌-ℤ◌, ◌≤ℤ◌, Bool, true, IsTrue, if◌then◌else◌, Some, None, arith, ap, subst, refl, ◌∙◌}
 use Rattle.std.specs.Prelude.{unsigned_abs}
 use Rattle.std.specs.Int.RustNames.{int_le}
 use Rattle.std.proofs.lemmas.Int.{ints}

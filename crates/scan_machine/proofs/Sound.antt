@@ -1,5 +1,5 @@
 -- The first place that breaks a rule, but for operands that wait at a target.
-use Rattle.std.proofs.Common.{◌≡◌, ℕ, ◌+◌, ◌<◌, ◌≤◌, ◌↔◌, ◌≢◌, Bool, IsTrue, Option, Some, None, IfSome, List, length, get_or, slice_get, arith, sym, subst, refl}
+use Rattle.std.proofs.Common.{◌≡◌, ℕ, ◌+◌, ◌<◌, ◌≤◌, ◌↔◌, Bool, IsTrue, IfSome, List, length, get_or, slice_get, arith, sym, subst}
 use Rattle.std.proofs.lemmas.Option.{slice_get-get_or, slice_get_past}
 use borrow.Author.Count.{below_more}
 use Rattle.scan_machine.specs.declared.instructions.Instr.{Instr}
@@ -7,7 +7,7 @@ use Rattle.scan_machine.specs.declared.verified.CodeRule.{CodeRule}
 use Rattle.scan_machine.specs.declared.verified.CodeRule.TheVariants as rule
 use Rattle.scan_machine.specs.declared.verified.BadCode.{BadCode}
 use Rattle.scan_machine.specs.Rules.{HasWords, HasConstants, HasTarget, HasDepth, HasLoop, depth_at, rank, Keeps, IsTarget, IsVerified, IsFirstBroken, KeepsDepth}
-use Rattle.scan_machine.specs.Checks.{KeepsAlone, IsSoundAt, IsBrokenAt, AreSoundBelow, IsFirstAlone, HaveTargets, HaveDepths, HaveEmptyTargets, IsLoaded}
+use Rattle.scan_machine.specs.Checks.{KeepsAlone, IsSoundAt, AreSoundBelow, IsFirstAlone, HaveTargets, HaveDepths, HaveEmptyTargets, IsLoaded}
 
 -- what is asked of the instruction at a place
 at_place : (b : Bool) (code : List Instr) (place : ℕ) (d : Instr) (P : Instr → Type 0) → place < length code
@@ -132,9 +132,10 @@ pub verified : (code : List Instr) (words : ℕ) → AreSoundBelow code words (l
 verified code words sound empty place within r = all_kept code words (length code + 1) sound empty place (omega arith) r
 
 -- the first fault is an operand that waits at a target
-pub loaded_first : (code : List Instr) (words target : ℕ) → AreSoundBelow code words target → ((r : CodeRule) → rank r < 3 → KeepsAlone code words target r)
+pub loaded_first : (code : List Instr) (words target : ℕ) → target ≤ length code → AreSoundBelow code words target → ((r : CodeRule) → rank r < 3 → KeepsAlone code words target r)
     → HaveEmptyTargets code target → IsLoaded code target → IsFirstBroken code words (record { index = target; cause = rule.Depth })
-loaded_first code words target sound earlier empty loaded = record {
+loaded_first code words target within sound earlier empty loaded = record {
+  within = within;
   before = all_kept code words target sound empty;
   earlier = λ r below. before_target_depth code words target r below (earlier r below);
   broken = λ h. loaded.waiting (h.target loaded.named);
@@ -143,6 +144,7 @@ loaded_first code words target sound earlier empty loaded = record {
 -- the first fault is one that has nothing to do with a target
 pub alone_first : (code : List Instr) (words : ℕ) (bad : BadCode) → IsFirstAlone code words bad → HaveEmptyTargets code (bad.index + 1) → IsFirstBroken code words bad
 alone_first code words bad first empty = record {
+  within = first.within;
   before = all_kept code words bad.index first.before (λ target below is. empty target (omega arith) is);
   earlier = λ r below. with_target code words bad.index r (first.here.earlier r below) (λ is. empty bad.index (omega arith) is);
   broken = λ h. first.here.broken (alone code words bad.index bad.cause h);
@@ -151,6 +153,7 @@ alone_first code words bad first empty = record {
 -- the same where an operand waits at that very place, but an earlier rule is broken there
 pub alone_before : (code : List Instr) (words : ℕ) (bad : BadCode) → IsFirstAlone code words bad → rank bad.cause < 3 → HaveEmptyTargets code bad.index → IsFirstBroken code words bad
 alone_before code words bad first sooner empty = record {
+  within = first.within;
   before = all_kept code words bad.index first.before empty;
   earlier = λ r below. before_target_depth code words bad.index r (omega arith) (first.here.earlier r below);
   broken = λ h. first.here.broken (alone code words bad.index bad.cause h);
@@ -160,7 +163,11 @@ alone_before code words bad first sooner empty = record {
 pub loaded_here : (code : List Instr) (words : ℕ) (bad : BadCode) (target : ℕ) → IsFirstAlone code words bad → bad.index ≡ target → 3 ≤ rank bad.cause
     → HaveEmptyTargets code target → IsLoaded code target → IsFirstBroken code words (record { index = target; cause = rule.Depth })
 loaded_here code words bad target first e late empty loaded =
-    loaded_first code words target
+    loaded_first code words target (subst (λ n. n ≤ length code) e first.within)
     (subst (λ n. AreSoundBelow code words n) e first.before)
     (λ r below. subst (λ n. KeepsAlone code words n r) e (first.here.earlier r (omega arith)))
     empty loaded
+
+-- where a rule is broken, not all are kept
+pub not_verified : (code : List Instr) (words : ℕ) (bad : BadCode) → IsFirstBroken code words bad → IsVerified code words → ⊥
+not_verified code words bad first kept = first.broken (kept bad.index first.within bad.cause)

@@ -1,10 +1,10 @@
 -- A run of verified code stays within the code, with as many operands as the rules count, and comes nearer to its end.
-use Rattle.std.proofs.Common.{◌≡◌, ℕ, ◌+◌, ◌-◌, ◌<◌, ◌≤◌, ◌⊎◌, ℤ, pos, Option, Some, IfSome, List, length, get_or, slice_get, arith, sym, subst, ap, ◌∙◌, refl, inl, inr}
+use Rattle.std.proofs.Common.{◌≡◌, ℕ, ◌+◌, ◌<◌, ◌≤◌, Some, IfSome, List, length, get_or, slice_get, arith, sym, subst, ap, ◌∙◌, refl, inl, inr}
 use Rattle.std.proofs.lemmas.Option.{slice_get-get_or}
 use Rattle.scan_machine.specs.declared.instructions.Instr.{Instr}
 use Rattle.scan_machine.specs.declared.instructions.Instr.TheVariants as i
 use Rattle.scan_machine.specs.declared.verified.CodeRule.TheVariants as rule
-use Rattle.scan_machine.specs.Rules.{HasWords, HasConstants, HasTarget, HasDepth, takes, gives, depth_at, depth_after, named, IsTarget, NamesTarget, IsVerified}
+use Rattle.scan_machine.specs.Rules.{HasWords, HasConstants, HasTarget, HasDepth, takes, gives, depth_at, depth_after, NamesTarget, IsVerified}
 use Rattle.scan_machine.specs.Machine.{State, read}
 use Rattle.scan_machine.proofs.Waiting.{depth_more}
 use Rattle.scan_machine.proofs.Reaches.{reach_there}

@@ -1,7 +1,6 @@
 -- What the noted stores of a run say of its words.
-use Rattle.std.proofs.Common.{◌≡◌, ℕ, zero, suc, ◌+◌, ◌-◌, ◌<◌, ◌≤◌, ◌⊎◌, ℤ, pos, ◌+ℤ◌, ◌≤ℤ◌, Bool, true, false, ◌||◌, if◌then◌else◌, eqb, Option, Some, None, IfSome, List, [], ◌∷◌, ◌++◌, length, take, drop, get_or, slice_get, arith, sym, subst, ap, ◌∙◌, refl, inl, inr, length-take, length-drop, length-append}
+use Rattle.std.proofs.Common.{◌≡◌, ℕ, zero, suc, ◌+◌, ◌-◌, ◌<◌, ◌≤◌, ◌⊎◌, ℤ, pos, ◌+ℤ◌, Bool, true, false, ◌||◌, if◌then◌else◌, eqb, Option, Some, None, IfSome, List, [], ◌∷◌, ◌++◌, length, take, drop, get_or, slice_get, arith, sym, subst, ap, ◌∙◌, refl, inl, inr, length-take, length-drop, length-append}
 use Rattle.std.specs.Prelude.{slice_index_or, slice_set, is_some}
-use Rattle.std.specs.Option.{option_and_then}
 use Rattle.std.proofs.lemmas.Bool.{cases_lt, eq-eqb, eqb-true}
 use Rattle.std.proofs.lemmas.List.{get_or-drop, get_or-take, length-set}
 use Rattle.std.proofs.lemmas.Option.{same_Some, none-some, option_and_then_some, slice_get_within}
@@ -15,7 +14,7 @@ use Rattle.scan_machine.specs.Values.{is_on, clamped}
 use Rattle.scan_machine.specs.Numbers.{bounded, element, is_past}
 use Rattle.scan_machine.specs.Blocks.{field_count, after_call}
 use Rattle.scan_machine.specs.Rules.{HasWords, IsVerified}
-use Rattle.scan_machine.specs.Machine.{State, Left, onward, store, operated, operate, load_at, stored, stored_at, chosen, called, read, with_words, words_at, noted_all, does, next, after, at_start, at_end, Runs}
+use Rattle.scan_machine.specs.Machine.{State, Left, onward, store, operated, operate, load_at, stored, stored_at, chosen, called, read, with_words, words_at, noted_all, does, next, after, at_start, at_end}
 use Rattle.scan_machine.specs.Laws.{NotesStores, HasNotedStores}
 use Rattle.scan_machine.proofs.Calling.{length-after_call, fields_some}
 use Rattle.scan_machine.proofs.Reaches.{reach_there}

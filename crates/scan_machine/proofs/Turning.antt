@@ -1,5 +1,5 @@
 -- A loop's Next and a store at an element, as the code does them.
-use Rattle.std.proofs.Common.{◌≡◌, ℕ, ◌+◌, ℤ, pos, ◌+ℤ◌, Bool, true, false, ◌||◌, if◌then◌else◌, List, ◌∷◌, Option, Some, sym, ap, subst, ◌∙◌}
+use Rattle.std.proofs.Common.{◌≡◌, ℕ, ◌+◌, ℤ, pos, ◌+ℤ◌, Bool, true, false, ◌||◌, if◌then◌else◌, List, ◌∷◌, Option, Some, sym, ap, ◌∙◌}
 use Rattle.std.specs.Prelude.{slice_index_or, slice_set}
 use Rattle.tri_base.specs.Noted.{noted}
 use Rattle.scan_machine.specs.declared.kinds.Kind.{Kind}

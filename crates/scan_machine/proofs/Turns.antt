@@ -1,9 +1,8 @@
 -- Why verified code comes to its end. Each place has a digit: 0 where the machine has passed it, the number of turns that
 -- are left to an open loop at its Next, and the greatest digit at all other places. Each step lowers a digit, and raises
 -- none of a later place.
-use Rattle.std.proofs.Common.{◌≡◌, ◌≢◌, ℕ, zero, suc, ◌+◌, ◌-◌, ◌<◌, ◌≤◌, ◌⊎◌, ℤ, pos, negsuc, ◌+ℤ◌, ◌-ℤ◌, ◌≤ℤ◌, ◌<ℤ◌, Bool, true, false, if◌then◌else◌, Option, Some, None, IfSome, List, length, get_or, slice_get, arith, sym, subst, ap, ◌∙◌, refl, inl, inr}
+use Rattle.std.proofs.Common.{◌≡◌, ◌≢◌, ℕ, zero, suc, ◌+◌, ◌<◌, ◌≤◌, ℤ, pos, negsuc, ◌+ℤ◌, ◌-ℤ◌, ◌≤ℤ◌, ◌<ℤ◌, Bool, true, false, if◌then◌else◌, Some, IfSome, List, length, get_or, slice_get, arith, sym, subst, ap, ◌∙◌, refl, inl, inr}
 use Rattle.std.specs.Prelude.{int_lt, nat_le, nat_lt, slice_index_or, slice_set}
-use Rattle.std.specs.Int.{int_max, int_min}
 use Rattle.std.proofs.lemmas.Int.{ints, clamps, by_lt_z}
 use Rattle.std.proofs.lemmas.Bool.{cases_lt, lt-ltb, le-ltb, le-leb, lt-leb}
 use Rattle.std.proofs.lemmas.List.{get_or-set_same}
@@ -13,10 +12,10 @@ use Rattle.scan_machine.specs.declared.kinds.Kind.TheVariants as kind
 use Rattle.scan_machine.specs.declared.instructions.Instr.{Instr}
 use Rattle.scan_machine.specs.declared.instructions.Instr.TheVariants as i
 use Rattle.scan_machine.specs.declared.verified.CodeRule.TheVariants as rule
-use Rattle.scan_machine.specs.Values.{least, greatest, is_on, number, clamped}
+use Rattle.scan_machine.specs.Values.{is_on, number, clamped}
 use Rattle.scan_machine.specs.Numbers.{is_past}
 use Rattle.scan_machine.specs.Machine.{read}
-use Rattle.scan_machine.specs.Rules.{IsOf, HasWords, HasConstants, HasTarget, HasLoop, Lies, store_reach, NestsWith, IsVerified}
+use Rattle.scan_machine.specs.Rules.{IsOf, HasConstants, HasTarget, HasLoop, Lies, store_reach, IsVerified}
 use Rattle.scan_machine.proofs.Alone.{starts_from}
 use Rattle.scan_machine.proofs.Digits.{value, value_less}
 

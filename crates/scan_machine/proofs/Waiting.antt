@@ -1,12 +1,12 @@
 -- The depth before a place, one instruction at a time.
-use Rattle.std.proofs.Common.{◌≡◌, ℕ, zero, suc, ◌+◌, ◌-◌, ◌<◌, ◌≤◌, ◌⊎◌, Option, Some, None, IfSome, List, length, take, get_or, slice_get, fold, arith, sym, subst, ap, ◌∙◌, refl, inl, inr}
+use Rattle.std.proofs.Common.{◌≡◌, ℕ, zero, suc, ◌+◌, ◌-◌, ◌<◌, ◌≤◌, IfSome, List, length, get_or, arith, sym, subst, ◌∙◌, refl, inl, inr}
 use Rattle.std.proofs.lemmas.Option.{slice_get-get_or, slice_get_within}
 use Rattle.std.proofs.lemmas.List.Sums.{fold_more}
 use Rattle.std.proofs.lemmas.Bool.{cases_lt}
 use borrow.Author.Count.{below_more}
 use Rattle.scan_machine.specs.declared.instructions.Instr.{Instr}
 use Rattle.scan_machine.specs.declared.instructions.Instr.TheVariants as i
-use Rattle.scan_machine.specs.Rules.{takes, gives, depth_after, depth_at, EmptiesStack, HasDepth, IsTarget, NamesTarget}
+use Rattle.scan_machine.specs.Rules.{depth_after, depth_at, EmptiesStack, HasDepth}
 use Rattle.scan_machine.specs.Checks.{HaveDepths, NamesEmpty, HaveEmptyTargets, IsLoaded}
 
 pub depth_more : (code : List Instr) (at : ℕ) (d : Instr) → at < length code → depth_at code (at + 1) ≡ depth_after (depth_at code at) (get_or code at d)

@@ -1,5 +1,5 @@
 -- What the parts of `verify` and `run` ask and answer. No public clause cites it.
-use Rattle.std.specs.Prelude.{◌⊎◌, ◌+◌, ◌||◌, ℤ, Bool, ◌≡◌, ℕ, ◌<◌, ◌≤◌, ◌≢◌, List, Option, None, Some, length, slice_get, IfSome}
+use Rattle.std.specs.Prelude.{◌⊎◌, ◌+◌, ◌||◌, ℤ, Bool, ◌≡◌, ℕ, ◌<◌, ◌≤◌, ◌≢◌, List, Some, length, slice_get, IfSome}
 use Rattle.scan_machine.specs.declared.instructions.Instr.{Instr}
 use Rattle.scan_machine.specs.declared.instructions.Instr.TheVariants as i
 use Rattle.scan_machine.specs.declared.verified.CodeRule.{CodeRule}

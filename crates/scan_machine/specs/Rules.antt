@@ -2,7 +2,6 @@
 use Rattle.std.specs.Prelude.{◌≡◌, ℕ, ◌+◌, ◌-◌, ◌<◌, ◌≤◌, ℤ, pos, negsuc, ◌≤ℤ◌, ◌-ℤ◌, ◌≢◌, ◌⊎◌, List, Option, None, Some, length, take, fold, slice_get, unsigned_abs, IfSome, if◌then◌else◌}
 use Rattle.std.specs.Int.RustNames.{int_le}
 use Rattle.scan_machine.specs.declared.kinds.Kind.{Kind}
-use Rattle.scan_machine.specs.declared.blocks.BlockKind.{BlockKind}
 use Rattle.scan_machine.specs.declared.instructions.Instr.{Instr}
 use Rattle.scan_machine.specs.declared.instructions.Instr.TheVariants as i
 use Rattle.scan_machine.specs.declared.verified.CodeRule.{CodeRule}
@@ -191,6 +190,7 @@ rank rule.Loop = 4
 
 -- the first broken rule at the first place that breaks one
 pub record IsFirstBroken (code : List Instr) (words : ℕ) (bad : BadCode) : Type 0 where
+  pub within : bad.index ≤ length code
   pub before : (place : ℕ) → place < bad.index → (r : CodeRule) → Keeps code words place r
   pub earlier : (r : CodeRule) → rank r < rank bad.cause → Keeps code words bad.index r
   pub broken : Keeps code words bad.index bad.cause → ⊥

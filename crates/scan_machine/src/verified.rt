@@ -50,14 +50,14 @@ impl Model for Code {
 }
 
 impl Code {
-    ghost use Rattle.std.specs.Prelude.{◌≡◌, MatchResult, IfErr, IfOk};
+    ghost use Rattle.std.specs.Prelude.{◌≡◌, ◌↔◌, IsOk, IfErr, IfOk};
     ghost use Rattle.scan_machine.specs.Rules.{IsVerified, IsFirstBroken};
 
     /// The code of a list of instructions over so many words. `Err` says which instruction breaks
     /// which rule; the list is then dropped.
     pub fn verify(instructions: Vec<Instr>, words: usize) -> Result<Code, BadCode>
+        ensures exactly { IsOk result ↔ IsVerified instructions.items words }
         ensures value { IfOk result (λ code. code ≡ record { list = instructions.items; words = words }) }
-        ensures kept { IfOk result (λ _. IsVerified instructions.items words) }
         ensures broken { IfErr result (λ bad. IsFirstBroken instructions.items words bad) }
     {
         match first_fault(&instructions, words) {

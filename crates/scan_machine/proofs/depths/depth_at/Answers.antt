@@ -1,4 +1,4 @@
-use Rattle.std.proofs.Common.{◌≡◌, ◌≤◌, arith, subst, sym, pos}
+use Rattle.std.proofs.Common.{◌≡◌, ◌≤◌, arith, subst, sym}
 use Rattle.scan_machine.specs.declared.instructions.Instr.TheVariants.{Limit}
 use Rattle.scan_machine.specs.Rules.{depth_at}
 use Rattle.scan_machine.proofs.Waiting.{depth_bound}

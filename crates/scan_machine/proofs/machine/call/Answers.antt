@@ -1,4 +1,4 @@
-use Rattle.std.proofs.Common.{◌≡◌, ℤ, to_z, of_z, w64, arith}
+use Rattle.std.proofs.Common.{◌≡◌, to_z, of_z, w64, arith}
 use Rattle.std.proofs.lemmas.Int.{ints}
 use Rattle.scan_machine.proofs.Calling.{called_words}
 use Rattle.scan_machine.proofs.machine.call.Goals as goal

@@ -1,4 +1,4 @@
-use Rattle.std.proofs.Common.{◌≡◌, ℕ, ℤ, List, to_z, of_z, w64, arith, ap}
+use Rattle.std.proofs.Common.{◌≡◌, ℤ, to_z, of_z, w64, arith, ap}
 use Rattle.std.proofs.lemmas.Int.{ints}
 use Rattle.tri_base.specs.Noted.{TouchedValue}
 use Rattle.scan_machine.proofs.Turning.{stores_at}

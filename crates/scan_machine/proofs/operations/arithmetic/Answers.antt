@@ -1,5 +1,5 @@
-use Rattle.std.proofs.Common.{◌≡◌, ℤ, ◌+ℤ◌, ◌-ℤ◌, ◌*ℤ◌, List, ◌∷◌, to_z, of_z, w64, FitsSigned, arith, rules, ap, ◌∙◌}
-use Rattle.std.proofs.lemmas.Int.{ints, to_z-of_z}
+use Rattle.std.proofs.Common.{◌+ℤ◌, ◌-ℤ◌, ◌*ℤ◌, ◌∷◌, arith, ap, ◌∙◌}
+use Rattle.std.proofs.lemmas.Int.{ints}
 use Rattle.scan_machine.specs.declared.instructions.Instr.{Instr}
 use Rattle.scan_machine.specs.Machine.{operate}
 use Rattle.scan_machine.proofs.Doing.{exact_on_top}

@@ -1,4 +1,3 @@
-use Rattle.std.proofs.Common.{◌≡◌, ◌≤◌}
 use Rattle.scan_machine.specs.Checks.{IsAlone}
 use Rattle.scan_machine.proofs.rules.is_alone.Given as goal
 

@@ -1,6 +1,6 @@
 use Rattle.std.proofs.Common.{◌≡◌, ℕ, ◌≤◌, ◌+◌, Some, length}
 use Rattle.scan_machine.specs.Rules.{depth_at}
-use Rattle.scan_machine.specs.Machine.{State, after, at_start}
+use Rattle.scan_machine.specs.Machine.{after, at_start}
 use Rattle.scan_machine.proofs.Turns.{potential}
 use Rattle.scan_machine.proofs.running.run_on.Given as goal
 

@@ -8,7 +8,7 @@ first_loaded-target-requires-clause-depths c at below = (sound_depths c.args.cod
 pub returns-then-target-code : goal.returns-then-target-code
 returns-then-target-code c =
     let t = c.first_loaded-target in let sound = c.in-None.ensures in
-    loaded_first c.args.code.now c.args.words t.result (λ at below. sound at (omega arith)) (λ r below. sound t.result (omega arith) r) t.ensures.before (t.ensures.loaded (omega arith))
+    loaded_first c.args.code.now c.args.words t.result (omega arith) (λ at below. sound at (omega arith)) (λ r below. sound t.result (omega arith) r) t.ensures.before (t.ensures.loaded (omega arith))
 
 pub returns-else-target-code : goal.returns-else-target-code
 returns-else-target-code c =

@@ -1,7 +1,6 @@
-use Rattle.std.proofs.Common.{◌≡◌, ◌<◌, ◌≤◌, ◌+◌, arith, subst, refl, inl, inr}
+use Rattle.std.proofs.Common.{◌≤◌, arith, refl, inl, inr}
 use Rattle.std.proofs.lemmas.Bool.{cases_lt}
-use Rattle.scan_machine.specs.Rules.{rank, Keeps}
-use Rattle.scan_machine.specs.Checks.{AreSoundBelow, HaveEmptyTargets, HaveDepths, KeepsAlone}
+use Rattle.scan_machine.specs.Rules.{rank}
 use Rattle.scan_machine.proofs.Sound.{sound_depths, loaded_first, alone_first, alone_before, loaded_here}
 use Rattle.scan_machine.proofs.verified.with_targets.Goals as goal
 
@@ -12,7 +11,7 @@ first_loaded-target-requires-clause-depths c at below =
 pub returns-then-target-bad : goal.returns-then-target-bad
 returns-then-target-bad c =
     let t = c.first_loaded-target in let sound = c.requires.before in
-    loaded_first c.args.code.now c.args.words t.result (λ at below. sound at (omega arith)) (λ r below. sound t.result (omega arith) r) t.ensures.before (t.ensures.loaded (omega arith))
+    loaded_first c.args.code.now c.args.words t.result (omega arith) (λ at below. sound at (omega arith)) (λ r below. sound t.result (omega arith) r) t.ensures.before (t.ensures.loaded (omega arith))
 
 pub returns-then-target-bad-2 : goal.returns-then-target-bad-2
 returns-then-target-bad-2 c =
