@@ -1,0 +1,72 @@
+-- What each status says of the words, of what was read, and of what was written.
+use Rattle.std.specs.Prelude.{◌≡◌, ◌≢◌, ℕ, List, [], ◌∷◌, map, Option, Some, None, codes}
+use Rattle.tri_base.specs.Rows.{TextValue}
+use Rattle.tri_io.specs.Counts.{Rose}
+use Rattle.tri_io.specs.Wholes.{TakesAll, TakesPast, TakesFront, PutsAll, PutsSome}
+use Rattle.plant_script.specs.ScriptValue.{ReadScript}
+use Rattle.plant_script.specs.ScriptText.{script_of}
+use Rattle.tricon.specs.SmallProgram.{SmallProgram, IsSmall}
+use Rattle.tricon.specs.SoloReport.{IsSoloReport}
+use Rattle.tricon.specs.declared.status.Status.{Status}
+use Rattle.tricon.specs.declared.status.Status.TheVariants.{Done, Usage, Refused, ReadFault, WriteFault, NoMemory, ScriptTooLong}
+use Rattle.tricon.specs.declared.status.RefusedCause.{RefusedCause}
+use Rattle.tricon.specs.declared.status.RefusedCause.TheVariants.{NoScript, NoProgram}
+
+-- the words are the command `solo`
+abbrev pub IsSolo : List TextValue → Type 0
+IsSolo words = map (λ (w : TextValue). w.list) words ≡ codes "solo" ∷ []
+
+-- a script has at most so many bytes
+abbrev pub script_limit : ℕ
+script_limit = 1048576
+
+-- one run of a command: the bytes that the source held and holds, the bytes that the sink had and has, as far as they tell; and their counts of faults
+pub record Run : Type 0 where
+  pub held : Option (List ℕ)
+  pub left : Option (List ℕ)
+  pub had : Option (List ℕ)
+  pub has : Option (List ℕ)
+  pub read_before : ℕ
+  pub read_after : ℕ
+  pub written_before : ℕ
+  pub written_after : ℕ
+
+-- the source was read to its end, and its bytes spell a script and a program, of which something was written
+pub record Writes (run : Run) (puts : Option (List ℕ) → Option (List ℕ) → List ℕ → Type 0) : Type 0 where
+  pub bytes : List ℕ
+  pub report : List ℕ
+  pub read : TakesAll run.held run.left bytes
+  pub is : IsSoloReport bytes report
+  pub written : puts run.had run.has report
+
+-- the source was read to its end, and its bytes spell no script
+pub record SpellsNone (run : Run) : Type 0 where
+  pub bytes : List ℕ
+  pub read : TakesAll run.held run.left bytes
+  pub none : script_of bytes ≡ None
+
+-- the source was read to its end, and its bytes spell a script whose TEXT is no program
+pub record BuildsNone (run : Run) : Type 0 where
+  pub bytes : List ℕ
+  pub script : ReadScript
+  pub read : TakesAll run.held run.left bytes
+  pub reads : script_of bytes ≡ Some script
+  pub none : (program : SmallProgram) → IsSmall script.value.points script.value.text program → ⊥
+
+abbrev pub RefusedFor : Run → RefusedCause → Type 0
+RefusedFor run NoScript = SpellsNone run
+RefusedFor run NoProgram = BuildsNone run
+
+-- what a status says of a run of `solo`
+abbrev pub Says : Run → Status → Type 0
+Says run Done = Writes run PutsAll
+Says run Usage = ⊥
+Says run (Refused line cause) = (line ≡ 0) × RefusedFor run cause
+Says run ReadFault = Rose run.read_before run.read_after × TakesFront script_limit run.held run.left
+Says run WriteFault = Rose run.written_before run.written_after × Writes run PutsSome
+Says run NoMemory = Unit {0}
+Says run ScriptTooLong = TakesPast script_limit run.held run.left
+
+-- the statuses with which nothing was written
+abbrev pub IsSilent : Status → Type 0
+IsSilent status = (status ≢ Done) × (status ≢ WriteFault)

@@ -1,0 +1,11 @@
+pub mod SmallProgram
+pub mod SmallMeaning
+pub mod SmallReading
+pub mod SmallBody
+pub mod VotedInputs
+pub mod SingleController
+pub mod SoloReport
+pub mod LegTapes
+pub mod Statuses
+pub mod Plays
+pub mod Answers

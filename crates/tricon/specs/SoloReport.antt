@@ -1,0 +1,40 @@
+-- The report of the one controller.
+use Rattle.std.specs.Prelude.{◌≡◌, ℕ, ℤ, pos, List, [], ◌∷◌, ◌++◌, Some, codes}
+use Rattle.std.specs.List.{flat_map, range_with_len}
+use Rattle.std.specs.Fmt.{signed_decimal}
+use Rattle.plant_script.specs.ScriptValue.{ScriptValue, ReadScript}
+use Rattle.plant_script.specs.ScriptText.{script_of}
+use Rattle.tricon.specs.SmallProgram.{SmallProgram, IsSmall}
+use Rattle.tricon.specs.SmallMeaning.{Wiring, wiring_of}
+use Rattle.tricon.specs.VotedInputs.{voted_inputs}
+use Rattle.tricon.specs.SingleController.{memory_at, outputs_at}
+
+-- a space (byte 32) and the shortest decimal text of a number
+abbrev pub spaced : ℤ → List ℕ
+spaced number = 32 ∷ signed_decimal number
+
+-- a line: a word, then numbers, then a line feed
+abbrev pub line : List ℕ → List ℤ → List ℕ
+line word numbers = word ++ (flat_map spaced numbers ++ 10 ∷ [])
+
+-- a scan: its number; the voted scan time and inputs; the outputs; and whether arithmetic left its range
+abbrev pub scan_text : ℕ → List ℤ → List ℤ → List ℕ
+scan_text scan inputs outputs = line (codes "SCAN") (pos scan ∷ []) ++ (line (codes "IN") (pos 100 ∷ inputs) ++ (line (codes "OUT") outputs ++ line (codes "ARITH") (pos 0 ∷ [])))
+
+abbrev pub scan_of_report : ScriptValue → Wiring → ℕ → List ℕ
+scan_of_report script program scan = scan_text scan (voted_inputs script scan) (outputs_at script program scan)
+
+-- the report: its title; the scans; the epoch and the memory after the last one
+abbrev pub solo_report : ScriptValue → Wiring → List ℕ
+solo_report script program =
+    line (codes "TRICON SOLO") (pos 1 ∷ [])
+    ++ (flat_map (scan_of_report script program) (range_with_len 1 script.scans)
+    ++ (line (codes "FINAL") (pos 0 ∷ memory_at script program script.scans) ++ line (codes "END") []))
+
+-- bytes spell a script and its TEXT a program, and this is their report
+pub record IsSoloReport (bytes report : List ℕ) : Type 0 where
+  pub script : ReadScript
+  pub program : SmallProgram
+  pub reads : script_of bytes ≡ Some script
+  pub builds : IsSmall script.value.points script.value.text program
+  pub is : report ≡ solo_report script.value (wiring_of script.value.points program)

@@ -1,0 +1,62 @@
+ghost use Rattle.std.specs.Prelude.{◌≡◌, ◌++◌, ◌∷◌, [], pos, OnOk};
+ghost use Rattle.std.specs.List.{flat_map};
+ghost use Rattle.tricon.specs.SoloReport.{line, spaced, scan_text};
+
+use tri_base::{NoMemory, Text, push_bytes, push_number};
+
+/// Adds a line: a word, and numbers behind it.
+pub(crate) fn push_line(text: &mut Text, word: &[u8], numbers: &[i64]) -> Result<(), NoMemory>
+    ensures { OnOk result (text.new.list ≡ text.old.list ++ line word.now numbers.now) }
+{
+    push_bytes(text, word)?;
+    push_numbers(text, numbers)?;
+    push_bytes(text, b"\n")
+}
+
+/// Adds a line: a word, a number, and numbers behind it.
+pub(crate) fn push_led_line(
+    text: &mut Text,
+    word: &[u8],
+    first: i64,
+    numbers: &[i64],
+) -> Result<(), NoMemory>
+    ensures { OnOk result (text.new.list ≡ text.old.list ++ line word.now (first ∷ numbers.now)) }
+{
+    push_bytes(text, word)?;
+    push_spaced(text, first)?;
+    push_numbers(text, numbers)?;
+    push_bytes(text, b"\n")
+}
+
+/// Adds the lines of a scan.
+pub(crate) fn push_scan(
+    text: &mut Text,
+    scan: u32,
+    inputs: &[i64],
+    outputs: &[i64],
+) -> Result<(), NoMemory>
+    ensures { OnOk result (text.new.list ≡ text.old.list ++ scan_text scan inputs.now outputs.now) }
+{
+    push_led_line(text, b"SCAN", scan as i64, &[])?;
+    push_led_line(text, b"IN", 100, inputs)?;
+    push_line(text, b"OUT", outputs)?;
+    push_led_line(text, b"ARITH", 0, &[])
+}
+
+/// Adds a space and a number for each.
+fn push_numbers(text: &mut Text, numbers: &[i64]) -> Result<(), NoMemory>
+    ensures { OnOk result (text.new.list ≡ text.old.list ++ flat_map spaced numbers.now) }
+{
+    for number in numbers {
+        push_spaced(text, *number)?;
+    }
+    Ok(())
+}
+
+/// Adds a space and a number.
+fn push_spaced(text: &mut Text, number: i64) -> Result<(), NoMemory>
+    ensures { OnOk result (text.new.list ≡ text.old.list ++ spaced number) }
+{
+    push_bytes(text, b" ")?;
+    push_number(text, number)
+}

@@ -1,0 +1,30 @@
+ghost use Rattle.std.specs.Prelude.{IfOk, IfSome, IfNone};
+ghost use Rattle.tricon.specs.SmallMeaning.{Means, MeansNothing};
+
+use crate::small::program::SmallProgram;
+use crate::small::read::read_body;
+use crate::small::wire::wire;
+use chassis::Chassis;
+use std::alloc::Global;
+use tri_base::NoMemory;
+
+/// How many bytes the text of a program may have.
+const TEXT: usize = 16_384;
+
+/// Reads a small program over the points of a chassis: the one that the text spells, or None where it spells none.
+pub fn read_small(
+    alloc: Global,
+    chassis: &Chassis,
+    text: &[u8],
+) -> Result<Option<SmallProgram>, NoMemory>
+    ensures read { IfOk result (λ found. IfSome found (Means chassis.now text.now)) }
+    ensures none { IfOk result (λ found. IfNone found (MeansNothing chassis.now text.now)) }
+{
+    if text.len() > TEXT {
+        return Ok(None);
+    }
+    match read_body(alloc, chassis, text)? {
+        Some(body) => Ok(Some(wire(alloc, chassis, body)?)),
+        None => Ok(None),
+    }
+}
