@@ -1,0 +1,15 @@
+pub mod Reaches
+pub mod Alone
+pub mod Waiting
+pub mod Sound
+pub mod Dividing
+pub mod Digits
+pub mod Turns
+pub mod Doing
+pub mod Calling
+pub mod Turning
+pub mod Moves
+pub mod Stays
+pub mod Ran
+pub mod OneRun
+pub mod Storing

@@ -1,0 +1,94 @@
+use Rattle.std.proofs.Common.{◌≡◌, ◌+◌, pos, length, get_or, to_z, of_z, w64, arith, sym, subst, ap, refl, ◌∙◌}
+use Rattle.std.proofs.lemmas.Int.{ints}
+use Rattle.scan_machine.specs.declared.instructions.Instr.{Instr}
+use Rattle.scan_machine.specs.declared.instructions.Instr.TheVariants.{Push}
+use Rattle.scan_machine.specs.Rules.{HasWords}
+use Rattle.scan_machine.specs.Machine.{State, at_start}
+use Rattle.scan_machine.proofs.Moves.{Went, went}
+use Rattle.scan_machine.proofs.Stays.{instr_at, words_at_place, constants_at_place, depth_at_place, step_within, step_depth, step_nearer}
+use Rattle.scan_machine.proofs.Ran.{begun, ran_more, held, ended}
+use Rattle.scan_machine.proofs.running.run_on.Goals as goal
+
+pub loop-index-init : goal.loop-index-init
+loop-index-init g c =
+    let none = c.new-stack.ensures in
+    record {
+      ran = (0, begun c.args.code.now (to_z w64 (of_z w64 c.args.dt)) c.args.words.now c.new-stack.result c.args.touched.now.pairs none, omega arith);
+      within = omega arith;
+      depth = ap length none;
+      size = refl;
+    }
+
+pub step-index-requires-clause-words : goal.step-index-requires-clause-words
+step-index-requires-clause-words g c =
+    let code = c.args.code.now in let at = c.loop-index.index in
+    subst (λ n. HasWords n (get_or code at (Push (pos 0)))) (sym c.loop-index.auto.words)
+    (words_at_place code (length c.args.words.now) c.requires.verified at (Push (pos 0)) c.loop-index-test.true)
+
+pub step-index-requires-clause-constants : goal.step-index-requires-clause-constants
+step-index-requires-clause-constants g c =
+    constants_at_place c.args.code.now (length c.args.words.now) c.requires.verified c.loop-index.index (Push (pos 0)) c.loop-index-test.true
+
+pub step-index-requires-clause-operands : goal.step-index-requires-clause-operands
+step-index-requires-clause-operands g c =
+    let d = depth_at_place c.args.code.now (length c.args.words.now) c.requires.verified c.loop-index.index (Push (pos 0)) c.loop-index-test.true in
+    let depth = c.loop-index.invariant.depth in
+    omega (arith, d.operands, depth)
+
+pub step-index-requires-clause-room : goal.step-index-requires-clause-room
+step-index-requires-clause-room g c =
+    let d = depth_at_place c.args.code.now (length c.args.words.now) c.requires.verified c.loop-index.index (Push (pos 0)) c.loop-index-test.true in
+    let depth = c.loop-index.invariant.depth in
+    omega (arith, d.operands, d.room, depth)
+
+pub step-index-requires-clause-held : goal.step-index-requires-clause-held
+step-index-requires-clause-held g c =
+    let h = held c.args.code.now (length c.args.words.now) c.requires.verified c.loop-index.index (Push (pos 0)) c.loop-index.invariant.within in
+    let depth = c.loop-index.invariant.depth in
+    omega (arith, h, depth)
+
+pub loop-index-smaller : goal.loop-index-smaller
+loop-index-smaller g c =
+    let code = c.args.code.now in let total = length c.args.words.now in let l = c.loop-index in let n = c.step-index in
+    let d : Instr = Push (pos 0) in let here = c.loop-index-test.true in
+    let s : State = record { index = l.index; stack = l.stack; words = l.words; flag = l.flag; stores = l.touched.pairs } in
+    let s' : State = record { index = n.result; stack = n.new.stack; words = n.new.words; flag = n.new.flag; stores = n.new.touched.pairs } in
+    let move : Went (get_or code l.index d) s s' =
+    went (to_z w64 (of_z w64 c.args.dt)) (get_or code l.index d) s s'
+    (subst (λ n. HasWords n (get_or code l.index d)) (sym l.auto.words) (words_at_place code total c.requires.verified l.index d here))
+    (constants_at_place code total c.requires.verified l.index d here) n.ensures.value in
+    step_nearer code total c.requires.verified d s s' here l.auto.words move
+
+pub loop-index-preserved : goal.loop-index-preserved
+loop-index-preserved g c =
+    let code = c.args.code.now in let total = length c.args.words.now in let l = c.loop-index in let n = c.step-index in
+    let d : Instr = Push (pos 0) in let here = c.loop-index-test.true in
+    let s : State = record { index = l.index; stack = l.stack; words = l.words; flag = l.flag; stores = l.touched.pairs } in
+    let s' : State = record { index = n.result; stack = n.new.stack; words = n.new.words; flag = n.new.flag; stores = n.new.touched.pairs } in
+    let dt = to_z w64 (of_z w64 c.args.dt) in
+    let move : Went (get_or code l.index d) s s' =
+    went dt (get_or code l.index d) s s'
+    (subst (λ n. HasWords n (get_or code l.index d)) (sym l.auto.words) (words_at_place code total c.requires.verified l.index d here))
+    (constants_at_place code total c.requires.verified l.index d here) n.ensures.value in
+    let ran = l.invariant.ran in
+    let ticked = c.tick.ensures in
+    record {
+      ran = (
+        ran.0 + 1,
+        ran_more code dt ran.0 (at_start c.args.words.now c.args.touched.now.pairs) s s' (get_or code l.index d) ran.1 (instr_at code total c.requires.verified l.index d here) n.ensures.value,
+        omega (arith, ran.2, ticked),
+      );
+      within = step_within code total c.requires.verified d s s' here l.auto.words move;
+      depth = step_depth code total c.requires.verified d s s' here l.auto.words move l.invariant.depth n.ensures.depth;
+      size = n.ensures.size ∙ l.invariant.size;
+    }
+
+pub returns-clause-ran : goal.returns-clause-ran
+returns-clause-ran g c =
+    let l = c.loop-index in let ran = l.invariant.ran in
+    let same : to_z w64 (of_z w64 c.args.dt) ≡ c.args.dt = omega (arith, ints) in (
+      ran.0,
+      ended c.args.code.now (length c.args.words.now) c.requires.verified c.args.dt (to_z w64 (of_z w64 c.args.dt)) ran.0 l.index c.args.words.now l.words l.stack l.flag
+          c.args.touched.now.pairs l.touched.pairs same l.invariant.within c.loop-index-test.false l.invariant.depth ran.1,
+      ran.2,
+    )

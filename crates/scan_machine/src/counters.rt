@@ -1,0 +1,75 @@
+// Counters.
+
+ghost use Rattle.std.specs.Prelude.{◌≡◌, length};
+ghost use Rattle.scan_machine.specs.Blocks.{counted_up, counted_down, counter, ctu, ctd};
+ghost use Rattle.scan_machine.specs.Values.{IsOperand};
+
+use crate::fields::{read_bool, read_int};
+
+// Writes the fields of a counter.
+fn write(fields: &mut [i64], input: bool, reset: bool, preset: i64, output: bool, count: i64)
+    requires { length fields.old ≡ 6 }
+    ensures { fields.new ≡ counter input reset preset output count }
+{
+    let input = i64::from(input);
+    let reset = i64::from(reset);
+    fields.copy_from_slice(&[input, reset, preset, i64::from(output), count, input]);
+}
+
+/// CTU.
+pub(crate) fn count_up(fields: &mut [i64])
+    requires { length fields.old ≡ 6 }
+    ensures { fields.new ≡ ctu fields.old }
+{
+    let up = read_bool(fields, 0);
+    let reset = read_bool(fields, 1);
+    let preset = read_int(fields, 2);
+    let count = next_up(up, reset, read_int(fields, 4), read_bool(fields, 5));
+    write(fields, up, reset, preset, preset <= count, count);
+}
+
+// The count after a call of CTU.
+fn next_up(up: bool, reset: bool, count: i64, memory: bool) -> i64
+    requires { IsOperand count }
+    ensures { result ≡ counted_up up reset count memory }
+{
+    if reset {
+        0
+    } else if up && !memory && count < 32_767 {
+        count + 1
+    } else {
+        count
+    }
+}
+
+/// CTD.
+pub(crate) fn count_down(fields: &mut [i64])
+    requires { length fields.old ≡ 6 }
+    ensures { fields.new ≡ ctd fields.old }
+{
+    let down = read_bool(fields, 0);
+    let load = read_bool(fields, 1);
+    let preset = read_int(fields, 2);
+    let count = next_down(
+        down,
+        load,
+        preset,
+        read_int(fields, 4),
+        read_bool(fields, 5),
+    );
+    write(fields, down, load, preset, count <= 0, count);
+}
+
+// The count after a call of CTD.
+fn next_down(down: bool, load: bool, preset: i64, count: i64, memory: bool) -> i64
+    requires { IsOperand count }
+    ensures { result ≡ counted_down down load preset count memory }
+{
+    if load {
+        preset
+    } else if down && !memory && count > -32_768 {
+        count - 1
+    } else {
+        count
+    }
+}
