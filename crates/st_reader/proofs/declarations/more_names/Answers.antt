@@ -1,0 +1,25 @@
+use Rattle.std.proofs.Common.{rules, arith, sym, ◌∙◌}
+use Rattle.std.proofs.lemmas.Grind.{common_steps}
+use Rattle.st_tree.specs.declared.token.Fixed.TheVariants as w
+use Rattle.st_reader.specs.Parsers.{sees}
+use Rattle.st_reader.specs.ReadDeclarations as spec
+use Rattle.st_reader.proofs.Turns.{stops_here, goes, no_turn_left}
+use Rattle.st_reader.proofs.declarations.more_names.Goals as goal
+
+pub returns-then-not-comes : goal.returns-then-not-comes
+returns-then-not-comes c = stops_here (sees w.Comma) (spec.next_name) (spec.more_names c.args.turns c.args.tokens.now) _ c.loop-turn._turn c.loop-turn.found c.loop-turn.tokens c.loop-turn.invariant c.loop-turn-test.true (sym c.sees-comes.ensures ∙ c.if-not-comes.true)
+
+pub returns-in_err-next : goal.returns-in_err-next
+returns-in_err-next c =
+    let e = goes (sees w.Comma) (spec.next_name) (spec.more_names c.args.turns c.args.tokens.now) _ c.loop-turn._turn c.loop-turn.found c.loop-turn.tokens c.loop-turn.invariant c.loop-turn-test.true (sym c.sees-comes.ensures ∙ c.if-not-comes.false) in
+    first_of (search rules, grind (arith, common_steps))
+
+pub loop-turn-preserved : goal.loop-turn-preserved
+loop-turn-preserved c =
+    let e = goes (sees w.Comma) (spec.next_name) (spec.more_names c.args.turns c.args.tokens.now) _ c.loop-turn._turn c.loop-turn.found c.loop-turn.tokens c.loop-turn.invariant c.loop-turn-test.true (sym c.sees-comes.ensures ∙ c.if-not-comes.false) in
+    first_of (search rules, grind (arith, common_steps))
+
+pub returns : goal.returns
+returns c =
+    let e = no_turn_left (sees w.Comma) (spec.next_name) (spec.more_names c.args.turns c.args.tokens.now) _ c.loop-turn._turn c.loop-turn.found c.loop-turn.tokens c.loop-turn.invariant c.loop-turn-test.false in
+    first_of (search rules, grind (arith, common_steps))

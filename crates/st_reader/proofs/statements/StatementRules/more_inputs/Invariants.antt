@@ -1,0 +1,10 @@
+use Rattle.std.proofs.Common.{◌≡◌, ◌-◌}
+use Rattle.st_tree.specs.declared.token.Fixed.TheVariants as w
+use Rattle.st_reader.specs.Parsers.{more_of}
+use Rattle.st_reader.specs.Parsers.{sees}
+use Rattle.st_reader.specs.ReadExpressions.{expr_at}
+use Rattle.st_reader.specs.ReadStatements as spec
+use Rattle.st_reader.proofs.statements.StatementRules.more_inputs.Given as goal
+
+abbrev pub invariant-loop-turn : goal.invariant-loop-turn
+invariant-loop-turn g l = spec.more_inputs l.self.turns (expr_at l.self.levels) (spec.statements_at l.self.levels) l.fn.tokens ≡ more_of (sees w.Comma) (spec.next_input l.self.turns (expr_at l.self.levels) (spec.statements_at l.self.levels)) (l._turn-end - l._turn) l.found l.tokens

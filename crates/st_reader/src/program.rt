@@ -1,0 +1,55 @@
+//! Programs.
+
+ghost use Rattle.std.specs.Prelude.{◌≡◌, ◌<◌, ◌+◌, ◌^◌, length};
+ghost use Rattle.st_reader.specs.Parsers.{Reads};
+ghost use Rattle.st_reader.specs.ReadPrograms as spec;
+
+use crate::cursor::Cursor;
+use crate::declarations::block;
+use crate::refusal::Refusal;
+use crate::statements::statements;
+use sqlite_items::Items;
+use st_tree::{Block, Fixed, Token, Tree};
+use std::alloc::Global;
+
+fn blocks(alloc: Global, tokens: &mut Cursor<'_>, turns: usize) -> Result<Items<Block>, Refusal>
+    ensures { Reads (spec.blocks turns tokens.old) result tokens.new }
+{
+    let mut found = Items::new(alloc);
+    for _turn in 0..turns {
+        let comes = tokens.sees_block();
+        if !comes {
+            return Ok(found);
+        }
+        let next = block(alloc, tokens, turns)?;
+        found.push(next).map_err(|_| Refusal::NoMemory)?;
+    }
+    Err(tokens.refusal())
+}
+
+#[tactic(auto, unfolding(crate::specs::ReadPrograms::program))]
+fn program(alloc: Global, tokens: &mut Cursor<'_>, turns: usize) -> Result<Tree, Refusal>
+    ensures { Reads (spec.program turns tokens.old) result tokens.new }
+{
+    tokens.expect(Fixed::Program)?;
+    let name = tokens.name()?;
+    let blocks = blocks(alloc, tokens, turns)?;
+    let statements = statements(alloc, tokens, turns)?;
+    tokens.expect(Fixed::EndProgram)?;
+    Ok(Tree {
+        name,
+        blocks,
+        statements,
+    })
+}
+
+/// The program that all of the tokens spell.
+#[tactic(auto, unfolding(crate::specs::ReadPrograms::whole))]
+pub fn whole(alloc: Global, tokens: &[Token]) -> Result<Tree, Refusal>
+    ensures { spec.Gives (spec.whole (length tokens.now + 1) tokens.now) result }
+{
+    let mut cursor = Cursor::new(tokens);
+    let tree = program(alloc, &mut cursor, tokens.len() + 1)?;
+    cursor.end()?;
+    Ok(tree)
+}

@@ -1,0 +1,9 @@
+pub mod Words
+pub mod Numerals
+pub mod Lexes
+pub mod Pieces
+pub mod Expressions
+pub mod Declarations
+pub mod Statements
+pub mod Programs
+pub mod Nesting

@@ -1,0 +1,29 @@
+/// A type of one word.
+#[derive(Clone, Copy, Debug, PartialEq, Eq)]
+pub enum Simple {
+    Bool,
+    Int,
+    Dint,
+}
+
+/// What a tag is: one word, an array of words with its bounds, or a function block.
+#[derive(Clone, Copy, Debug, PartialEq, Eq)]
+pub enum TagType {
+    Bool,
+    Int,
+    Dint,
+    Array {
+        element: Simple,
+        low: i64,
+        high: i64,
+    },
+    RTrig,
+    FTrig,
+    Sr,
+    Rs,
+    Ctu,
+    Ctd,
+    Ton,
+    Tof,
+    Tp,
+}
