@@ -10,6 +10,8 @@ mod scan_line;
 mod script;
 mod stage;
 mod tape;
+#[cfg(test)]
+mod tests;
 mod words;
 
 pub use fault::{ScriptCause, ScriptFault};
