@@ -8,7 +8,7 @@ use Rattle.scan_machine.specs.declared.blocks.BlockKind.{BlockKind}
 use Rattle.scan_machine.specs.declared.instructions.Instr.{Instr}
 use Rattle.scan_machine.specs.declared.instructions.Instr.TheVariants as i
 use Rattle.scan_machine.specs.Rules.{array_reach, reach, Lies, HasWords}
-use Rattle.scan_machine.specs.Checks.{IsOperation}
+use Rattle.scan_machine.specs.Checks.{GoesOn, IsOperation}
 
 -- all words of a reach are there where its last one is
 all_there : (words first more : ℕ) → first + more < words → (word : ℕ) → Lies word (Some (first, more)) → word < words
@@ -33,18 +33,25 @@ array_there words address low high instr up is h =
     let e : int_le low high ≡ true = grind (arith, ints) in
     reach_there words address (unsigned_abs (high -ℤ low)) instr (is ∙ ap (λ (b : Bool). if b then Some (address, unsigned_abs (high -ℤ low)) else None) e) h
 
--- an instruction that is none of these works on operands alone
-pub is_operation : (instr : Instr) → ((v : ℤ) → instr ≡ i.Push v → ⊥) → ((a : ℕ) → (k : Kind) → instr ≡ i.Load a k → ⊥) → ((a : ℕ) → (k : Kind) → instr ≡ i.Store a k → ⊥)
+-- an instruction that is none of these goes on to the next one
+pub goes_on : (instr : Instr) → ((t : ℕ) → instr ≡ i.Jump t → ⊥) → ((t : ℕ) → instr ≡ i.JumpFalse t → ⊥)
+    → ((a : ℕ) → (k : Kind) → (s l : ℤ) → (b : ℕ) → instr ≡ i.Next a k s l b → ⊥) → GoesOn instr
+goes_on (i.Jump t) j jf n = absurd (j t refl)
+goes_on (i.JumpFalse t) j jf n = absurd (jf t refl)
+goes_on (i.Next a k step last b) j jf n = absurd (n a k step last b refl)
+goes_on _ j jf n = tt
+
+-- and one that is none of these either works on operands alone
+pub is_operation : (instr : Instr) → GoesOn instr → ((v : ℤ) → instr ≡ i.Push v → ⊥) → ((a : ℕ) → (k : Kind) → instr ≡ i.Load a k → ⊥) → ((a : ℕ) → (k : Kind) → instr ≡ i.Store a k → ⊥)
     → ((a : ℕ) → (k : Kind) → (l h : ℤ) → instr ≡ i.LoadAt a k l h → ⊥) → ((a : ℕ) → (k : Kind) → (l h : ℤ) → instr ≡ i.StoreAt a k l h → ⊥)
-    → ((t : ℕ) → instr ≡ i.Jump t → ⊥) → ((t : ℕ) → instr ≡ i.JumpFalse t → ⊥)
-    → ((a : ℕ) → (k : Kind) → (s l : ℤ) → (b : ℕ) → instr ≡ i.Next a k s l b → ⊥) → ((k : BlockKind) → (a : ℕ) → instr ≡ i.Call k a → ⊥) → IsOperation instr
-is_operation (i.Push v) p l s la sa j jf n c = absurd (p v refl)
-is_operation (i.Load a k) p l s la sa j jf n c = absurd (l a k refl)
-is_operation (i.Store a k) p l s la sa j jf n c = absurd (s a k refl)
-is_operation (i.LoadAt a k low high) p l s la sa j jf n c = absurd (la a k low high refl)
-is_operation (i.StoreAt a k low high) p l s la sa j jf n c = absurd (sa a k low high refl)
-is_operation (i.Jump t) p l s la sa j jf n c = absurd (j t refl)
-is_operation (i.JumpFalse t) p l s la sa j jf n c = absurd (jf t refl)
-is_operation (i.Next a k step last b) p l s la sa j jf n c = absurd (n a k step last b refl)
-is_operation (i.Call k a) p l s la sa j jf n c = absurd (c k a refl)
-is_operation _ p l s la sa j jf n c = tt
+    → ((k : BlockKind) → (a : ℕ) → instr ≡ i.Call k a → ⊥) → IsOperation instr
+is_operation (i.Push v) g p l s la sa c = absurd (p v refl)
+is_operation (i.Load a k) g p l s la sa c = absurd (l a k refl)
+is_operation (i.Store a k) g p l s la sa c = absurd (s a k refl)
+is_operation (i.LoadAt a k low high) g p l s la sa c = absurd (la a k low high refl)
+is_operation (i.StoreAt a k low high) g p l s la sa c = absurd (sa a k low high refl)
+is_operation (i.Jump t) g p l s la sa c = absurd g
+is_operation (i.JumpFalse t) g p l s la sa c = absurd g
+is_operation (i.Next a k step last b) g p l s la sa c = absurd g
+is_operation (i.Call k a) g p l s la sa c = absurd (c k a refl)
+is_operation _ g p l s la sa c = tt

@@ -114,6 +114,13 @@ IsTernary i.Limit = Unit {0}
 IsTernary i.Select = Unit {0}
 IsTernary _ = ⊥
 
+-- the next instruction in the code always follows
+abbrev pub GoesOn : Instr → Type 0
+GoesOn (i.Jump target) = ⊥
+GoesOn (i.JumpFalse target) = ⊥
+GoesOn (i.Next address kind step last back) = ⊥
+GoesOn _ = Unit {0}
+
 -- all of these
 abbrev pub IsOperation : Instr → Type 0
 IsOperation (i.Push v) = ⊥

@@ -1,9 +1,9 @@
 // One instruction of the scan machine.
 
-ghost use Rattle.std.specs.Prelude.{◌||◌, ◌≡◌, ◌<◌, ◌≤◌, ◌+◌, ◌^◌, ◌≤ℤ◌, ◌-ℤ◌, pos, ◌∷◌, Some, length, slice_set, slice_index_or, unsigned_abs};
+ghost use Rattle.std.specs.Prelude.{ℕ, ◌||◌, ◌≡◌, ◌<◌, ◌≤◌, ◌+◌, ◌^◌, ◌≤ℤ◌, ◌-ℤ◌, pos, ◌∷◌, Some, length, slice_set, slice_index_or, unsigned_abs};
 ghost use Rattle.tri_base.specs.Noted.{noted};
 ghost use Rattle.scan_machine.specs.Values.{IsOperand};
-ghost use Rattle.scan_machine.specs.Checks.{StoresAt};
+ghost use Rattle.scan_machine.specs.Checks.{GoesOn, StoresAt};
 ghost use Rattle.scan_machine.specs.Blocks.{field_count, after_call};
 ghost use Rattle.scan_machine.specs.Numbers.{bounded, element};
 ghost use Rattle.scan_machine.specs.Rules.{HasWords, HasConstants, AreBounds, takes, gives};
@@ -42,40 +42,6 @@ pub(crate) fn step(
     ensures size { touched.new.size ≡ touched.old.size }
 {
     match *instr {
-        Instr::Push(value) => {
-            stack.push(value);
-            index + 1
-        }
-        Instr::Load(address, kind) => {
-            stack.push(clamp_to(kind, words[address]));
-            index + 1
-        }
-        Instr::Store(address, kind) => {
-            let value = clamp_to(kind, stack.pop());
-            store(words, touched, address, value);
-            index + 1
-        }
-        Instr::LoadAt {
-            address,
-            kind,
-            low,
-            high,
-        } => {
-            raise(flag, load_at(address, kind, low, high, words, stack));
-            index + 1
-        }
-        Instr::StoreAt {
-            address,
-            kind,
-            low,
-            high,
-        } => {
-            raise(
-                flag,
-                store_at(address, kind, low, high, words, touched, stack),
-            );
-            index + 1
-        }
         Instr::Jump(target) => target,
         Instr::JumpFalse(target) => {
             if is_on(stack.pop()) {
@@ -99,14 +65,63 @@ pub(crate) fn step(
                 back
             }
         }
-        Instr::Call(kind, address) => {
-            call(kind, address, dt, words, touched);
-            index + 1
-        }
         _ => {
-            raise(flag, operate(instr, stack));
+            act(instr, dt, words, touched, stack, flag);
             index + 1
         }
+    }
+}
+
+// Does one instruction that the next one in the code always follows.
+#[inline(always)]
+fn act(
+    instr: &Instr,
+    dt: i64,
+    words: &mut [i64],
+    touched: &mut Touched,
+    stack: &mut Operands,
+    flag: &mut bool,
+)
+    requires goes_on { GoesOn instr.now }
+    requires words { HasWords (length words.old) instr.now }
+    requires constants { HasConstants instr.now }
+    requires operands { takes instr.now ≤ length stack.old }
+    requires room { length stack.old + gives instr.now ≤ 1024 + takes instr.now }
+    requires held { length stack.old ≤ 1024 }
+    requires from { pos 0 ≤ℤ dt }
+    requires to { dt ≤ℤ pos 10_000 }
+    requires touched { length words.old ≤ touched.old.size }
+    ensures value { (index : ℕ) → does dt instr.now (record { index = index; stack = stack.old; words = words.old; flag = flag.old; stores = touched.old.pairs }) ≡ Some (record { index = index + 1; stack = stack.new; words = words.new; flag = flag.new; stores = touched.new.pairs }) }
+    ensures depth { length stack.new + takes instr.now ≡ length stack.old + gives instr.now }
+    ensures size { touched.new.size ≡ touched.old.size }
+{
+    match *instr {
+        Instr::Push(value) => stack.push(value),
+        Instr::Load(address, kind) => stack.push(clamp_to(kind, words[address])),
+        Instr::Store(address, kind) => {
+            let value = clamp_to(kind, stack.pop());
+            store(words, touched, address, value)
+        }
+        Instr::LoadAt {
+            address,
+            kind,
+            low,
+            high,
+        } => {
+            let clamped = load_at(address, kind, low, high, words, stack);
+            raise(flag, clamped)
+        }
+        Instr::StoreAt {
+            address,
+            kind,
+            low,
+            high,
+        } => {
+            let clamped = store_at(address, kind, low, high, words, touched, stack);
+            raise(flag, clamped)
+        }
+        Instr::Call(kind, address) => call(kind, address, dt, words, touched),
+        _ => raise(flag, operate(instr, stack)),
     }
 }
 
