@@ -1,5 +1,5 @@
 -- What a line of a script says by itself.
-use Rattle.std.specs.Prelude.{ℕ, ℤ, Bool, List, [], ◌∷◌, Option, Some, None, ◌==◌, codes, if◌then◌else◌}
+use Rattle.std.specs.Prelude.{ℕ, ℤ, Bool, false, List, [], ◌∷◌, Option, Some, None, ◌==◌, codes, if◌then◌else◌}
 use Rattle.std.specs.Str.{bytes_eq}
 use Rattle.tri_base.specs.Names.{name_of}
 use Rattle.tri_base.specs.Numbers.{number_of}
@@ -63,7 +63,7 @@ setting (name ∷ a ∷ b ∷ c ∷ word ∷ words) = Faulty
 
 -- whether a word is the beginning of a comment line: it begins with `#` (byte 35)
 abbrev pub begins_comment : List ℕ → Bool
-begins_comment [] = 0 == 1
+begins_comment [] = false
 begins_comment (b ∷ bs) = b == 35
 
 -- a line by its first word and the words behind it
