@@ -1,4 +1,4 @@
--- The values of a word: BOOL is 0 or 1, INT 16 bits and DINT 32 bits, both signed (IEC 61131-3, elementary data types).
+-- The values of a word: BOOL is 0 or 1, INT 16 bits and DINT 32 bits, both signed (IEC 61131-3:2013, 6.4.2).
 use Rattle.std.specs.Prelude.{ℤ, pos, negsuc, ◌≤ℤ◌, Bool, true, false, zero, suc, List, [], ◌∷◌}
 use Rattle.std.specs.Int.{int_max, int_min}
 use Rattle.scan_machine.specs.declared.kinds.Kind.{Kind}

@@ -1,4 +1,4 @@
--- The grammar of declarations (IEC 61131-3, 2.4.3): what each part spells.
+-- The grammar of declarations (IEC 61131-3:2013, 6.5): what each part spells.
 use Rattle.std.specs.Prelude.{ℕ, Bool, List, [], ◌∷◌, ◌++◌, Option, Some, None}
 use Rattle.st_tree.specs.declared.token.Fixed.{Fixed}
 use Rattle.st_tree.specs.declared.token.Fixed.TheVariants as w

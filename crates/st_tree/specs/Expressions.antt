@@ -1,4 +1,4 @@
--- The grammar of expressions (IEC 61131-3, 3.3.1): what each part spells, where its parts spell these pieces.
+-- The grammar of expressions (IEC 61131-3:2013, 7.3.2): what each part spells, where its parts spell these pieces.
 use Rattle.std.specs.Prelude.{ℕ, Bool, true, false, List, [], ◌∷◌, ◌++◌}
 use Rattle.st_tree.specs.declared.token.Fixed.{Fixed}
 use Rattle.st_tree.specs.declared.token.Fixed.TheVariants as w

@@ -1,4 +1,4 @@
--- The tokens of a text, and the first byte at which none begins (IEC 61131-3, 2.1).
+-- The tokens of a text, and the first byte at which none begins (IEC 61131-3:2013, 6.1).
 use Rattle.std.specs.Prelude.{◌≡◌, ℕ, suc, zero, ◌+◌, ◌-◌, ◌==◌, nat_lt, Bool, ◌&&◌, ◌||◌, if◌then◌else◌, List, [], ◌∷◌, length, map, take, drop, slice_index, Option, Some, None, Result, Ok, Err}
 use Rattle.std.specs.Option.{option_map}
 use Rattle.std.specs.List.{prefix_len}

@@ -1,4 +1,4 @@
--- The grammar of statements (IEC 61131-3, 3.3.2): what each part spells, where its statements spell these pieces.
+-- The grammar of statements (IEC 61131-3:2013, 7.3.3): what each part spells, where its statements spell these pieces.
 use Rattle.std.specs.Prelude.{ℕ, List, [], ◌∷◌, ◌++◌, Option, Some, None}
 use Rattle.st_tree.specs.declared.token.Fixed.TheVariants as w
 use Rattle.st_tree.specs.declared.declaration.Integer.{Integer}

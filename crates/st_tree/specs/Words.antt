@@ -1,4 +1,4 @@
--- The reserved words and the symbols (IEC 61131-3, 2.1.3 and 2.1.4).
+-- The reserved words and the symbols (IEC 61131-3:2013, 6.1).
 use Rattle.std.specs.Prelude.{ℕ, ◌==◌, ◌&&◌, if◌then◌else◌, List, [], ◌∷◌, Option, Some, None, codes}
 use Rattle.std.specs.Str.{bytes_eq}
 use Rattle.st_tree.specs.declared.token.Fixed.{Fixed}

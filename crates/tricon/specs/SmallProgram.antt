@@ -1,5 +1,5 @@
 -- The small programs: one list of BOOL points, and assignments of one to another.
--- They are a part of Structured Text (IEC 61131-3, section 3.3), and mean what they mean there.
+-- They are a part of Structured Text (IEC 61131-3:2013, 7.3), and mean what they mean there.
 use Rattle.std.specs.Prelude.{◌≡◌, ◌≢◌, ℕ, zero, suc, ◌<◌, ◌≤◌, Bool, true, false, List, [], ◌∷◌, ◌++◌, length, map, Some, codes, ◌==◌, ◌&&◌, ◌||◌, if◌then◌else◌, slice_index, All, AllPairs, bytes_eq, not}
 use Rattle.std.specs.List.{flat_map, list_any}
 use Rattle.std.specs.Char.{to_ascii_uppercase}
