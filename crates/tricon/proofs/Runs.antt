@@ -10,8 +10,7 @@ use Rattle.plant_script.specs.ScriptValue.{ReadScript}
 use Rattle.tricon.specs.SmallProgram.{IsSmall}
 use Rattle.tricon.specs.SmallMeaning.{Wiring, wiring_of, Means, MeansNothing}
 use Rattle.tricon.specs.SoloReport.{IsSoloReport, solo_report}
-use Rattle.tricon.specs.Answers.{IsSolo, Run, Says, script_limit}
-use Rattle.tricon.specs.Plays.{NoneBuilds}
+use Rattle.tricon.specs.Answers.{BuildsNone, IsSolo, Run, Says, script_limit}
 use Rattle.tricon.specs.declared.status.Status.{Status}
 use Rattle.tricon.specs.declared.status.Status.TheVariants.{Done, Usage, Refused, ReadFault, WriteFault, NoMemory, ScriptTooLong}
 use Rattle.tricon.specs.declared.status.RefusedCause.TheVariants.{NoScript, NoProgram}
@@ -42,7 +41,7 @@ reported bytes text script points program old new reads same_points same_text me
     }
 
 -- a script whose TEXT is no program
-pub unbuilt : (bytes text : List ℕ) (script : ReadScript) (points : List Point) → script_of bytes ≡ Some script → points ≡ script.value.points → text ≡ script.value.text → MeansNothing points text → NoneBuilds bytes
+pub unbuilt : (bytes text : List ℕ) (script : ReadScript) (points : List Point) → script_of bytes ≡ Some script → points ≡ script.value.points → text ≡ script.value.text → MeansNothing points text → BuildsNone bytes
 unbuilt bytes text script points reads same_points same_text none = record {
   script = script;
   reads = reads;
@@ -67,11 +66,11 @@ pub completes : (run : Run) (status : Status) (bytes report : List ℕ) → Says
 completes run Done bytes report says held short is reads writes = inl refl
 completes run Usage bytes report says held short is reads writes = absurd says
 completes run (Refused line NoScript) bytes report says held short is reads writes =
-    let none : script_of bytes ≡ None = ap script_of (sym (took run.held run.left says.1.bytes bytes held says.1.read)) ∙ says.1.none in
+    let none : script_of bytes ≡ None = ap script_of (sym (took run.held run.left says.1.bytes bytes held says.1.read)) ∙ says.1.is in
     let both : ◌≡◌ {A = Option ReadScript} None (Some is.script) = sym none ∙ is.reads in absurd (cc)
 completes run (Refused line NoProgram) bytes report says held short is reads writes =
-    let b = says.1 in
-    let read : script_of bytes ≡ Some b.script = ap script_of (sym (took run.held run.left b.bytes bytes held b.read)) ∙ b.reads in
+    let b = says.1.is in
+    let read : script_of bytes ≡ Some b.script = ap script_of (sym (took run.held run.left says.1.bytes bytes held says.1.read)) ∙ b.reads in
     let same = one_script bytes is.script b.script is.reads read in
     absurd (b.none is.program (subst (λ (s : ReadScript). IsSmall s.value.points s.value.text is.program) same is.builds))
 completes run ReadFault bytes report says held short is reads writes = absurd (reads says.0)

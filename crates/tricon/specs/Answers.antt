@@ -39,29 +39,28 @@ pub record Writes (run : Run) (puts : Option (List ℕ) → Option (List ℕ) �
   pub is : IsSoloReport bytes report
   pub written : puts run.had run.has report
 
--- the source was read to its end, and its bytes spell no script
-pub record SpellsNone (run : Run) : Type 0 where
-  pub bytes : List ℕ
-  pub read : TakesAll run.held run.left bytes
-  pub none : script_of bytes ≡ None
-
--- the source was read to its end, and its bytes spell a script whose TEXT is no program
-pub record BuildsNone (run : Run) : Type 0 where
-  pub bytes : List ℕ
+-- the bytes spell a script whose TEXT is no program
+pub record BuildsNone (bytes : List ℕ) : Type 0 where
   pub script : ReadScript
-  pub read : TakesAll run.held run.left bytes
   pub reads : script_of bytes ≡ Some script
   pub none : (program : SmallProgram) → IsSmall script.value.points script.value.text program → ⊥
 
-abbrev pub RefusedFor : Run → RefusedCause → Type 0
-RefusedFor run NoScript = SpellsNone run
-RefusedFor run NoProgram = BuildsNone run
+-- the bytes spell no script, or one whose TEXT is no program
+abbrev pub IsRefusedFor : List ℕ → RefusedCause → Type 0
+IsRefusedFor bytes NoScript = script_of bytes ≡ None
+IsRefusedFor bytes NoProgram = BuildsNone bytes
+
+-- the source was read to its end, and its bytes are refused for this cause
+pub record Refuses (run : Run) (cause : RefusedCause) : Type 0 where
+  pub bytes : List ℕ
+  pub read : TakesAll run.held run.left bytes
+  pub is : IsRefusedFor bytes cause
 
 -- what a status says of a run of `solo`
 abbrev pub Says : Run → Status → Type 0
 Says run Done = Writes run PutsAll
 Says run Usage = ⊥
-Says run (Refused line cause) = (line ≡ 0) × RefusedFor run cause
+Says run (Refused line cause) = (line ≡ 0) × Refuses run cause
 Says run ReadFault = Rose run.read_before run.read_after × TakesFront script_limit run.held run.left
 Says run WriteFault = Rose run.written_before run.written_after × Writes run PutsSome
 Says run NoMemory = Unit {0}
