@@ -3,6 +3,7 @@ pub mod Parsers
 pub mod Tables
 pub mod ReadExpressions
 pub mod Nests
+pub mod Repeats
 pub mod ReadDeclarations
 pub mod ReadStatements
 pub mod ReadPrograms

@@ -4,8 +4,8 @@ ghost use Rattle.st_reader.specs.Parsers.{Reads};
 ghost use Rattle.st_reader.specs.ReadDeclarations as spec;
 
 use crate::cursor::Cursor;
+use crate::many::many;
 use crate::refusal::Refusal;
-use sqlite_items::Items;
 use st_tree::{
     Block, Constant, Declaration, DeclaredType, ExternalDeclaration, Fixed, Integer, Names,
     PlacedName, Sign, Simple,
@@ -99,31 +99,18 @@ fn next_name(tokens: &mut Cursor<'_>) -> Result<PlacedName, Refusal>
     tokens.name()
 }
 
-fn more_names(
-    alloc: Global,
-    tokens: &mut Cursor<'_>,
-    turns: usize,
-) -> Result<Items<PlacedName>, Refusal>
-    ensures { Reads (spec.more_names turns tokens.old) result tokens.new }
-{
-    let mut found = Items::new(alloc);
-    for _turn in 0..turns {
-        let comes = tokens.sees(Fixed::Comma);
-        if !comes {
-            return Ok(found);
-        }
-        let next = next_name(tokens)?;
-        found.push(next).map_err(|_| Refusal::NoMemory)?;
-    }
-    Err(tokens.refusal())
-}
-
 #[tactic(auto, unfolding(crate::specs::ReadDeclarations::names))]
 fn names(alloc: Global, tokens: &mut Cursor<'_>, turns: usize) -> Result<Names, Refusal>
     ensures { Reads (spec.names turns tokens.old) result tokens.new }
 {
     let first = tokens.name()?;
-    let more = more_names(alloc, tokens, turns)?;
+    let more = many(
+        alloc,
+        turns,
+        tokens,
+        |tokens| tokens.sees(Fixed::Comma),
+        |tokens| next_name(tokens),
+    )?;
     Ok(Names { first, more })
 }
 
@@ -168,50 +155,18 @@ fn external(
     Ok(ExternalDeclaration { names, declared })
 }
 
-fn declarations(
-    alloc: Global,
-    tokens: &mut Cursor<'_>,
-    turns: usize,
-) -> Result<Items<Declaration>, Refusal>
-    ensures { Reads (spec.declarations turns tokens.old) result tokens.new }
-{
-    let mut found = Items::new(alloc);
-    for _turn in 0..turns {
-        let comes = tokens.sees_name();
-        if !comes {
-            return Ok(found);
-        }
-        let next = declaration(alloc, tokens, turns)?;
-        found.push(next).map_err(|_| Refusal::NoMemory)?;
-    }
-    Err(tokens.refusal())
-}
-
-fn externals(
-    alloc: Global,
-    tokens: &mut Cursor<'_>,
-    turns: usize,
-) -> Result<Items<ExternalDeclaration>, Refusal>
-    ensures { Reads (spec.externals turns tokens.old) result tokens.new }
-{
-    let mut found = Items::new(alloc);
-    for _turn in 0..turns {
-        let comes = tokens.sees_name();
-        if !comes {
-            return Ok(found);
-        }
-        let next = external(alloc, tokens, turns)?;
-        found.push(next).map_err(|_| Refusal::NoMemory)?;
-    }
-    Err(tokens.refusal())
-}
-
 #[tactic(auto, unfolding(crate::specs::ReadDeclarations::plain_block))]
 fn plain_block(alloc: Global, tokens: &mut Cursor<'_>, turns: usize) -> Result<Block, Refusal>
     ensures { Reads (spec.plain_block turns tokens.old) result tokens.new }
 {
     tokens.expect(Fixed::Var)?;
-    let found = declarations(alloc, tokens, turns)?;
+    let found = many(
+        alloc,
+        turns,
+        tokens,
+        |tokens| tokens.sees_name(),
+        |tokens| declaration(alloc, tokens, turns),
+    )?;
     tokens.expect(Fixed::EndVar)?;
     Ok(Block::Plain(found))
 }
@@ -221,7 +176,13 @@ fn external_block(alloc: Global, tokens: &mut Cursor<'_>, turns: usize) -> Resul
     ensures { Reads (spec.external_block turns tokens.old) result tokens.new }
 {
     tokens.expect(Fixed::VarExternal)?;
-    let found = externals(alloc, tokens, turns)?;
+    let found = many(
+        alloc,
+        turns,
+        tokens,
+        |tokens| tokens.sees_name(),
+        |tokens| external(alloc, tokens, turns),
+    )?;
     tokens.expect(Fixed::EndVar)?;
     Ok(Block::External(found))
 }

@@ -6,8 +6,9 @@ ghost use Rattle.st_reader.specs.ReadExpressions.{expr_at};
 ghost use Rattle.st_reader.specs.Nests.{Nests};
 
 use crate::cursor::Cursor;
+use crate::many::many;
 use crate::refusal::Refusal;
-use sqlite_items::{Boxed, Items};
+use sqlite_items::Boxed;
 use st_tree::{
     AddOperator, Arguments, CompareOperator, Comparison, Conjunction, EqualOperator, Equality,
     Exclusive, Expr, Fixed, MultiplyOperator, Operation, Primary, Product, Sum, Unary,
@@ -78,28 +79,18 @@ impl<F: Fn(Global, &mut Cursor<'_>, usize) -> Result<Expr, Refusal>> Expressions
         self.inner(tokens)
     }
 
-    fn more_arguments(&self, tokens: &mut Cursor<'_>) -> Result<Items<Expr>, Refusal>
-        requires { Nests self.now.levels (F.pre self.now.inner) (F.post self.now.inner) }
-        ensures { Reads (spec.more_arguments self.now.turns (expr_at self.now.levels) tokens.old) result tokens.new }
-    {
-        let mut found = Items::new(self.alloc);
-        for _turn in 0..self.turns {
-            let comes = tokens.sees(Fixed::Comma);
-            if !comes {
-                return Ok(found);
-            }
-            let next = self.next_argument(tokens)?;
-            found.push(next).map_err(|_| Refusal::NoMemory)?;
-        }
-        Err(tokens.refusal())
-    }
-
     fn arguments(&self, tokens: &mut Cursor<'_>) -> Result<Arguments, Refusal>
         requires { Nests self.now.levels (F.pre self.now.inner) (F.post self.now.inner) }
         ensures { Reads (spec.arguments self.now.turns (expr_at self.now.levels) tokens.old) result tokens.new }
     {
         let first = self.inner(tokens)?;
-        let more = self.more_arguments(tokens)?;
+        let more = many(
+            self.alloc,
+            self.turns,
+            tokens,
+            |tokens| tokens.sees(Fixed::Comma),
+            |tokens| self.next_argument(tokens),
+        )?;
         Ok(Arguments { first, more })
     }
 
@@ -170,32 +161,19 @@ impl<F: Fn(Global, &mut Cursor<'_>, usize) -> Result<Expr, Refusal>> Expressions
         Ok(Operation { operator, operand })
     }
 
-    fn more_factors(
-        &self,
-        tokens: &mut Cursor<'_>,
-    ) -> Result<Items<Operation<MultiplyOperator, Unary>>, Refusal>
-        requires { Nests self.now.levels (F.pre self.now.inner) (F.post self.now.inner) }
-        ensures { Reads (spec.more_factors self.now.turns (expr_at self.now.levels) tokens.old) result tokens.new }
-    {
-        let mut found = Items::new(self.alloc);
-        for _turn in 0..self.turns {
-            let comes = tokens.sees_multiply_operator();
-            if !comes {
-                return Ok(found);
-            }
-            let next = self.factor(tokens)?;
-            found.push(next).map_err(|_| Refusal::NoMemory)?;
-        }
-        Err(tokens.refusal())
-    }
-
     #[tactic(auto, unfolding(crate::specs::ReadExpressions::product_of))]
     fn product(&self, tokens: &mut Cursor<'_>) -> Result<Product, Refusal>
         requires { Nests self.now.levels (F.pre self.now.inner) (F.post self.now.inner) }
         ensures { Reads (spec.product_of self.now.turns (expr_at self.now.levels) tokens.old) result tokens.new }
     {
         let first = self.unary(tokens)?;
-        let more = self.more_factors(tokens)?;
+        let more = many(
+            self.alloc,
+            self.turns,
+            tokens,
+            |tokens| tokens.sees_multiply_operator(),
+            |tokens| self.factor(tokens),
+        )?;
         Ok(Product { first, more })
     }
 
@@ -211,32 +189,19 @@ impl<F: Fn(Global, &mut Cursor<'_>, usize) -> Result<Expr, Refusal>> Expressions
         Ok(Operation { operator, operand })
     }
 
-    fn more_terms(
-        &self,
-        tokens: &mut Cursor<'_>,
-    ) -> Result<Items<Operation<AddOperator, Product>>, Refusal>
-        requires { Nests self.now.levels (F.pre self.now.inner) (F.post self.now.inner) }
-        ensures { Reads (spec.more_terms self.now.turns (expr_at self.now.levels) tokens.old) result tokens.new }
-    {
-        let mut found = Items::new(self.alloc);
-        for _turn in 0..self.turns {
-            let comes = tokens.sees_add_operator();
-            if !comes {
-                return Ok(found);
-            }
-            let next = self.term(tokens)?;
-            found.push(next).map_err(|_| Refusal::NoMemory)?;
-        }
-        Err(tokens.refusal())
-    }
-
     #[tactic(auto, unfolding(crate::specs::ReadExpressions::sum_of))]
     fn sum(&self, tokens: &mut Cursor<'_>) -> Result<Sum, Refusal>
         requires { Nests self.now.levels (F.pre self.now.inner) (F.post self.now.inner) }
         ensures { Reads (spec.sum_of self.now.turns (expr_at self.now.levels) tokens.old) result tokens.new }
     {
         let first = self.product(tokens)?;
-        let more = self.more_terms(tokens)?;
+        let more = many(
+            self.alloc,
+            self.turns,
+            tokens,
+            |tokens| tokens.sees_add_operator(),
+            |tokens| self.term(tokens),
+        )?;
         Ok(Sum { first, more })
     }
 
@@ -255,32 +220,19 @@ impl<F: Fn(Global, &mut Cursor<'_>, usize) -> Result<Expr, Refusal>> Expressions
         Ok(Operation { operator, operand })
     }
 
-    fn more_compared(
-        &self,
-        tokens: &mut Cursor<'_>,
-    ) -> Result<Items<Operation<CompareOperator, Sum>>, Refusal>
-        requires { Nests self.now.levels (F.pre self.now.inner) (F.post self.now.inner) }
-        ensures { Reads (spec.more_compared self.now.turns (expr_at self.now.levels) tokens.old) result tokens.new }
-    {
-        let mut found = Items::new(self.alloc);
-        for _turn in 0..self.turns {
-            let comes = tokens.sees_compare_operator();
-            if !comes {
-                return Ok(found);
-            }
-            let next = self.compared_part(tokens)?;
-            found.push(next).map_err(|_| Refusal::NoMemory)?;
-        }
-        Err(tokens.refusal())
-    }
-
     #[tactic(auto, unfolding(crate::specs::ReadExpressions::comparison_of))]
     fn comparison(&self, tokens: &mut Cursor<'_>) -> Result<Comparison, Refusal>
         requires { Nests self.now.levels (F.pre self.now.inner) (F.post self.now.inner) }
         ensures { Reads (spec.comparison_of self.now.turns (expr_at self.now.levels) tokens.old) result tokens.new }
     {
         let first = self.sum(tokens)?;
-        let more = self.more_compared(tokens)?;
+        let more = many(
+            self.alloc,
+            self.turns,
+            tokens,
+            |tokens| tokens.sees_compare_operator(),
+            |tokens| self.compared_part(tokens),
+        )?;
         Ok(Comparison { first, more })
     }
 
@@ -299,32 +251,19 @@ impl<F: Fn(Global, &mut Cursor<'_>, usize) -> Result<Expr, Refusal>> Expressions
         Ok(Operation { operator, operand })
     }
 
-    fn more_equated(
-        &self,
-        tokens: &mut Cursor<'_>,
-    ) -> Result<Items<Operation<EqualOperator, Comparison>>, Refusal>
-        requires { Nests self.now.levels (F.pre self.now.inner) (F.post self.now.inner) }
-        ensures { Reads (spec.more_equated self.now.turns (expr_at self.now.levels) tokens.old) result tokens.new }
-    {
-        let mut found = Items::new(self.alloc);
-        for _turn in 0..self.turns {
-            let comes = tokens.sees_equal_operator();
-            if !comes {
-                return Ok(found);
-            }
-            let next = self.equated_part(tokens)?;
-            found.push(next).map_err(|_| Refusal::NoMemory)?;
-        }
-        Err(tokens.refusal())
-    }
-
     #[tactic(auto, unfolding(crate::specs::ReadExpressions::equality_of))]
     fn equality(&self, tokens: &mut Cursor<'_>) -> Result<Equality, Refusal>
         requires { Nests self.now.levels (F.pre self.now.inner) (F.post self.now.inner) }
         ensures { Reads (spec.equality_of self.now.turns (expr_at self.now.levels) tokens.old) result tokens.new }
     {
         let first = self.comparison(tokens)?;
-        let more = self.more_equated(tokens)?;
+        let more = many(
+            self.alloc,
+            self.turns,
+            tokens,
+            |tokens| tokens.sees_equal_operator(),
+            |tokens| self.equated_part(tokens),
+        )?;
         Ok(Equality { first, more })
     }
 
@@ -336,29 +275,19 @@ impl<F: Fn(Global, &mut Cursor<'_>, usize) -> Result<Expr, Refusal>> Expressions
         self.equality(tokens)
     }
 
-    fn more_conjuncts(&self, tokens: &mut Cursor<'_>) -> Result<Items<Equality>, Refusal>
-        requires { Nests self.now.levels (F.pre self.now.inner) (F.post self.now.inner) }
-        ensures { Reads (spec.more_conjuncts self.now.turns (expr_at self.now.levels) tokens.old) result tokens.new }
-    {
-        let mut found = Items::new(self.alloc);
-        for _turn in 0..self.turns {
-            let comes = tokens.sees(Fixed::And);
-            if !comes {
-                return Ok(found);
-            }
-            let next = self.conjunct(tokens)?;
-            found.push(next).map_err(|_| Refusal::NoMemory)?;
-        }
-        Err(tokens.refusal())
-    }
-
     #[tactic(auto, unfolding(crate::specs::ReadExpressions::conjunction_of))]
     fn conjunction(&self, tokens: &mut Cursor<'_>) -> Result<Conjunction, Refusal>
         requires { Nests self.now.levels (F.pre self.now.inner) (F.post self.now.inner) }
         ensures { Reads (spec.conjunction_of self.now.turns (expr_at self.now.levels) tokens.old) result tokens.new }
     {
         let first = self.equality(tokens)?;
-        let more = self.more_conjuncts(tokens)?;
+        let more = many(
+            self.alloc,
+            self.turns,
+            tokens,
+            |tokens| tokens.sees(Fixed::And),
+            |tokens| self.conjunct(tokens),
+        )?;
         Ok(Conjunction { first, more })
     }
 
@@ -370,29 +299,19 @@ impl<F: Fn(Global, &mut Cursor<'_>, usize) -> Result<Expr, Refusal>> Expressions
         self.conjunction(tokens)
     }
 
-    fn more_exclusives(&self, tokens: &mut Cursor<'_>) -> Result<Items<Conjunction>, Refusal>
-        requires { Nests self.now.levels (F.pre self.now.inner) (F.post self.now.inner) }
-        ensures { Reads (spec.more_exclusives self.now.turns (expr_at self.now.levels) tokens.old) result tokens.new }
-    {
-        let mut found = Items::new(self.alloc);
-        for _turn in 0..self.turns {
-            let comes = tokens.sees(Fixed::Xor);
-            if !comes {
-                return Ok(found);
-            }
-            let next = self.exclusive_part(tokens)?;
-            found.push(next).map_err(|_| Refusal::NoMemory)?;
-        }
-        Err(tokens.refusal())
-    }
-
     #[tactic(auto, unfolding(crate::specs::ReadExpressions::exclusive_of))]
     fn exclusive(&self, tokens: &mut Cursor<'_>) -> Result<Exclusive, Refusal>
         requires { Nests self.now.levels (F.pre self.now.inner) (F.post self.now.inner) }
         ensures { Reads (spec.exclusive_of self.now.turns (expr_at self.now.levels) tokens.old) result tokens.new }
     {
         let first = self.conjunction(tokens)?;
-        let more = self.more_exclusives(tokens)?;
+        let more = many(
+            self.alloc,
+            self.turns,
+            tokens,
+            |tokens| tokens.sees(Fixed::Xor),
+            |tokens| self.exclusive_part(tokens),
+        )?;
         Ok(Exclusive { first, more })
     }
 
@@ -404,29 +323,19 @@ impl<F: Fn(Global, &mut Cursor<'_>, usize) -> Result<Expr, Refusal>> Expressions
         self.exclusive(tokens)
     }
 
-    fn more_alternatives(&self, tokens: &mut Cursor<'_>) -> Result<Items<Exclusive>, Refusal>
-        requires { Nests self.now.levels (F.pre self.now.inner) (F.post self.now.inner) }
-        ensures { Reads (spec.more_alternatives self.now.turns (expr_at self.now.levels) tokens.old) result tokens.new }
-    {
-        let mut found = Items::new(self.alloc);
-        for _turn in 0..self.turns {
-            let comes = tokens.sees(Fixed::Or);
-            if !comes {
-                return Ok(found);
-            }
-            let next = self.alternative(tokens)?;
-            found.push(next).map_err(|_| Refusal::NoMemory)?;
-        }
-        Err(tokens.refusal())
-    }
-
     #[tactic(auto, unfolding(crate::specs::ReadExpressions::whole_of))]
     pub fn whole(&self, tokens: &mut Cursor<'_>) -> Result<Expr, Refusal>
         requires { Nests self.now.levels (F.pre self.now.inner) (F.post self.now.inner) }
         ensures { Reads (spec.whole_of self.now.turns (expr_at self.now.levels) tokens.old) result tokens.new }
     {
         let first = self.exclusive(tokens)?;
-        let more = self.more_alternatives(tokens)?;
+        let more = many(
+            self.alloc,
+            self.turns,
+            tokens,
+            |tokens| tokens.sees(Fixed::Or),
+            |tokens| self.alternative(tokens),
+        )?;
         Ok(Expr { first, more })
     }
 }

@@ -8,6 +8,7 @@ mod fault;
 mod item;
 mod laws;
 mod lexer;
+mod many;
 mod nesting;
 mod numeral;
 mod program;

@@ -6,26 +6,11 @@ ghost use Rattle.st_reader.specs.ReadPrograms as spec;
 
 use crate::cursor::Cursor;
 use crate::declarations::block;
+use crate::many::many;
 use crate::refusal::Refusal;
 use crate::statements::statements;
-use sqlite_items::Items;
 use st_tree::{Block, Fixed, Token, Tree};
 use std::alloc::Global;
-
-fn blocks(alloc: Global, tokens: &mut Cursor<'_>, turns: usize) -> Result<Items<Block>, Refusal>
-    ensures { Reads (spec.blocks turns tokens.old) result tokens.new }
-{
-    let mut found = Items::new(alloc);
-    for _turn in 0..turns {
-        let comes = tokens.sees_block();
-        if !comes {
-            return Ok(found);
-        }
-        let next = block(alloc, tokens, turns)?;
-        found.push(next).map_err(|_| Refusal::NoMemory)?;
-    }
-    Err(tokens.refusal())
-}
 
 #[tactic(auto, unfolding(crate::specs::ReadPrograms::program))]
 fn program(alloc: Global, tokens: &mut Cursor<'_>, turns: usize) -> Result<Tree, Refusal>
@@ -33,7 +18,13 @@ fn program(alloc: Global, tokens: &mut Cursor<'_>, turns: usize) -> Result<Tree,
 {
     tokens.expect(Fixed::Program)?;
     let name = tokens.name()?;
-    let blocks = blocks(alloc, tokens, turns)?;
+    let blocks = many(
+        alloc,
+        turns,
+        tokens,
+        |tokens| tokens.sees_block(),
+        |tokens| block(alloc, tokens, turns),
+    )?;
     let statements = statements(alloc, tokens, turns)?;
     tokens.expect(Fixed::EndProgram)?;
     Ok(Tree {

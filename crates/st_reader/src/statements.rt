@@ -9,6 +9,7 @@ ghost use Rattle.st_reader.specs.NestsStatements.{NestsStatements};
 use crate::cursor::Cursor;
 use crate::declarations::integer;
 use crate::expressions::expr;
+use crate::many::many;
 use crate::refusal::Refusal;
 use sqlite_items::Items;
 use st_tree::{
@@ -97,29 +98,19 @@ impl<G: Fn(Global, &mut Cursor<'_>, usize) -> Result<Items<Statement>, Refusal>>
         self.input(tokens)
     }
 
-    fn more_inputs(&self, tokens: &mut Cursor<'_>) -> Result<Items<Input>, Refusal>
-        requires { NestsStatements self.now.levels (G.pre self.now.inner) (G.post self.now.inner) }
-        ensures { Reads (spec.more_inputs self.now.turns (expr_at self.now.levels) (statements_at self.now.levels) tokens.old) result tokens.new }
-    {
-        let mut found = Items::new(self.alloc);
-        for _turn in 0..self.turns {
-            let comes = tokens.sees(Fixed::Comma);
-            if !comes {
-                return Ok(found);
-            }
-            let next = self.next_input(tokens)?;
-            found.push(next).map_err(|_| Refusal::NoMemory)?;
-        }
-        Err(tokens.refusal())
-    }
-
     #[tactic(auto, unfolding(crate::specs::ReadStatements::inputs))]
     fn inputs(&self, tokens: &mut Cursor<'_>) -> Result<Inputs, Refusal>
         requires { NestsStatements self.now.levels (G.pre self.now.inner) (G.post self.now.inner) }
         ensures { Reads (spec.inputs self.now.turns (expr_at self.now.levels) (statements_at self.now.levels) tokens.old) result tokens.new }
     {
         let first = self.input(tokens)?;
-        let more = self.more_inputs(tokens)?;
+        let more = many(
+            self.alloc,
+            self.turns,
+            tokens,
+            |tokens| tokens.sees(Fixed::Comma),
+            |tokens| self.next_input(tokens),
+        )?;
         Ok(Inputs { first, more })
     }
 
@@ -199,48 +190,22 @@ impl<G: Fn(Global, &mut Cursor<'_>, usize) -> Result<Items<Statement>, Refusal>>
         }))
     }
 
-    fn more_labels(&self, tokens: &mut Cursor<'_>) -> Result<Items<Label>, Refusal>
-        requires { NestsStatements self.now.levels (G.pre self.now.inner) (G.post self.now.inner) }
-        ensures { Reads (spec.more_labels self.now.turns (expr_at self.now.levels) (statements_at self.now.levels) tokens.old) result tokens.new }
-    {
-        let mut found = Items::new(self.alloc);
-        for _turn in 0..self.turns {
-            let comes = tokens.sees(Fixed::Comma);
-            if !comes {
-                return Ok(found);
-            }
-            let next = next_label(tokens)?;
-            found.push(next).map_err(|_| Refusal::NoMemory)?;
-        }
-        Err(tokens.refusal())
-    }
-
     #[tactic(auto, unfolding(crate::specs::ReadStatements::element))]
     fn element(&self, tokens: &mut Cursor<'_>) -> Result<Element, Refusal>
         requires { NestsStatements self.now.levels (G.pre self.now.inner) (G.post self.now.inner) }
         ensures { Reads (spec.element self.now.turns (expr_at self.now.levels) (statements_at self.now.levels) tokens.old) result tokens.new }
     {
         let first = label(tokens)?;
-        let more = self.more_labels(tokens)?;
+        let more = many(
+            self.alloc,
+            self.turns,
+            tokens,
+            |tokens| tokens.sees(Fixed::Comma),
+            |tokens| next_label(tokens),
+        )?;
         tokens.expect(Fixed::Colon)?;
         let body = self.inner(tokens)?;
         Ok(Element { first, more, body })
-    }
-
-    fn more_elements(&self, tokens: &mut Cursor<'_>) -> Result<Items<Element>, Refusal>
-        requires { NestsStatements self.now.levels (G.pre self.now.inner) (G.post self.now.inner) }
-        ensures { Reads (spec.more_elements self.now.turns (expr_at self.now.levels) (statements_at self.now.levels) tokens.old) result tokens.new }
-    {
-        let mut found = Items::new(self.alloc);
-        for _turn in 0..self.turns {
-            let comes = tokens.sees_label();
-            if !comes {
-                return Ok(found);
-            }
-            let next = self.element(tokens)?;
-            found.push(next).map_err(|_| Refusal::NoMemory)?;
-        }
-        Err(tokens.refusal())
     }
 
     #[tactic(auto, unfolding(crate::specs::ReadStatements::branch))]
@@ -263,22 +228,6 @@ impl<G: Fn(Global, &mut Cursor<'_>, usize) -> Result<Items<Statement>, Refusal>>
         self.branch(tokens)
     }
 
-    fn more_branches(&self, tokens: &mut Cursor<'_>) -> Result<Items<Branch>, Refusal>
-        requires { NestsStatements self.now.levels (G.pre self.now.inner) (G.post self.now.inner) }
-        ensures { Reads (spec.more_branches self.now.turns (expr_at self.now.levels) (statements_at self.now.levels) tokens.old) result tokens.new }
-    {
-        let mut found = Items::new(self.alloc);
-        for _turn in 0..self.turns {
-            let comes = tokens.sees(Fixed::Elsif);
-            if !comes {
-                return Ok(found);
-            }
-            let next = self.next_branch(tokens)?;
-            found.push(next).map_err(|_| Refusal::NoMemory)?;
-        }
-        Err(tokens.refusal())
-    }
-
     #[tactic(auto, unfolding(crate::specs::ReadStatements::otherwise))]
     fn otherwise(&self, tokens: &mut Cursor<'_>) -> Result<Option<Items<Statement>>, Refusal>
         requires { NestsStatements self.now.levels (G.pre self.now.inner) (G.post self.now.inner) }
@@ -298,7 +247,13 @@ impl<G: Fn(Global, &mut Cursor<'_>, usize) -> Result<Items<Statement>, Refusal>>
     {
         tokens.expect(Fixed::If)?;
         let first = self.branch(tokens)?;
-        let more = self.more_branches(tokens)?;
+        let more = many(
+            self.alloc,
+            self.turns,
+            tokens,
+            |tokens| tokens.sees(Fixed::Elsif),
+            |tokens| self.next_branch(tokens),
+        )?;
         let otherwise = self.otherwise(tokens)?;
         tokens.expect(Fixed::EndIf)?;
         tokens.expect(Fixed::Semicolon)?;
@@ -318,7 +273,13 @@ impl<G: Fn(Global, &mut Cursor<'_>, usize) -> Result<Items<Statement>, Refusal>>
         let selector = self.expr(tokens)?;
         tokens.expect(Fixed::Of)?;
         let first = self.element(tokens)?;
-        let more = self.more_elements(tokens)?;
+        let more = many(
+            self.alloc,
+            self.turns,
+            tokens,
+            |tokens| tokens.sees_label(),
+            |tokens| self.element(tokens),
+        )?;
         let otherwise = self.otherwise(tokens)?;
         tokens.expect(Fixed::EndCase)?;
         tokens.expect(Fixed::Semicolon)?;
@@ -403,16 +364,13 @@ impl<G: Fn(Global, &mut Cursor<'_>, usize) -> Result<Items<Statement>, Refusal>>
         requires { NestsStatements self.now.levels (G.pre self.now.inner) (G.post self.now.inner) }
         ensures { Reads (spec.several self.now.turns (expr_at self.now.levels) (statements_at self.now.levels) tokens.old) result tokens.new }
     {
-        let mut found = Items::new(self.alloc);
-        for _turn in 0..self.turns {
-            let comes = tokens.sees_statement();
-            if !comes {
-                return Ok(found);
-            }
-            let next = self.statement(tokens)?;
-            found.push(next).map_err(|_| Refusal::NoMemory)?;
-        }
-        Err(tokens.refusal())
+        many(
+            self.alloc,
+            self.turns,
+            tokens,
+            |tokens| tokens.sees_statement(),
+            |tokens| self.statement(tokens),
+        )
     }
 }
 

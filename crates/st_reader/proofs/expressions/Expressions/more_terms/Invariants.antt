@@ -1,9 +1,0 @@
-use Rattle.std.proofs.Common.{◌≡◌, ◌-◌}
-use Rattle.st_reader.specs.Parsers.{more_of, sees_some}
-use Rattle.st_reader.specs.Tables as tables
-use Rattle.st_reader.specs.ReadExpressions as spec
-use Rattle.st_reader.specs.ReadExpressions.{expr_at}
-use Rattle.st_reader.proofs.expressions.Expressions.more_terms.Given as goal
-
-abbrev pub invariant-loop-turn : goal.invariant-loop-turn
-invariant-loop-turn g l = spec.more_terms l.self.turns (expr_at l.self.levels) l.fn.tokens ≡ more_of (sees_some tables.add_of) (spec.term l.self.turns (expr_at l.self.levels)) (l._turn-end - l._turn) l.found l.tokens
