@@ -1,18 +1,13 @@
-ghost use Rattle.std.specs.Prelude.{◌≡◌, length, Some};
-ghost use Rattle.st_reader.specs.Parsers.{Reads, ahead, rest, sees, sees_name, sees_number, expect, place_of, name, number, found, place_ahead, sees_some};
-ghost use Rattle.st_reader.specs.Tables as tables;
+ghost use Rattle.std.specs.Prelude.{◌≡◌, length, Option, Some};
+ghost use Rattle.st_tree.specs.declared.token.Fixed.{Fixed};
+ghost use Rattle.st_reader.specs.Parsers.{Reads, ahead, rest, sees, sees_name, sees_number, expect, place_of, name, number, found, place_ahead, sees_some, entry, entry_at};
+ghost use Rattle.st_reader.specs.Repeats.{Lists};
 ghost use Rattle.st_reader.specs.ReadStatements.{sees_label, sees_statement, starts_statement as starts};
 ghost use Rattle.st_reader.specs.ReadPrograms.{sees_block, finish};
 
 use crate::refusal::Refusal;
-use crate::tables::{
-    add_operator, block_type, compare_operator, equal_operator, function_word, multiply_operator,
-    sign_word, simple_type, truth_value,
-};
-use st_tree::{
-    AddOperator, BlockType, CompareOperator, EqualOperator, Fixed, Function, MultiplyOperator,
-    PlacedName, Sign, Simple, Token, TokenKind,
-};
+use crate::tables::sign_word;
+use st_tree::{Fixed, PlacedName, Token, TokenKind};
 use std::marker::Model;
 
 /// The tokens that are left.
@@ -164,109 +159,50 @@ impl<'a> Cursor<'a> {
         }
     }
 
-    pub fn equal_operator(&self) -> Option<EqualOperator>
-        ensures { result ≡ found tables.equal_of (ahead self.now) }
+    /// What a table gives of the reserved word or symbol that comes next.
+    fn found<A, T: Fn(Fixed) -> Option<A>>(&self, table: T) -> Option<A>
+        requires { T.IsAlwaysCallable table }
+        ensures { (entries : Fixed → Option A) → Lists entries (T.post table) → result ≡ found entries (ahead self.now) }
     {
         match self.word() {
-            Some(word) => equal_operator(word),
+            Some(word) => table(word),
             None => None,
         }
     }
 
-    pub fn compare_operator(&self) -> Option<CompareOperator>
-        ensures { result ≡ found tables.compare_of (ahead self.now) }
+    /// A table gives something of the next token.
+    pub fn sees_some<A: Drop, T: Fn(Fixed) -> Option<A>>(&self, table: T) -> bool
+        requires { T.IsAlwaysCallable table }
+        ensures { (entries : Fixed → Option A) → Lists entries (T.post table) → result ≡ sees_some entries (ahead self.now) }
     {
-        match self.word() {
-            Some(word) => compare_operator(word),
-            None => None,
+        self.found(table).is_some()
+    }
+
+    /// What a table gives of the next token.
+    pub fn entry<A, T: Fn(Fixed) -> Option<A>>(&mut self, table: T) -> Result<A, Refusal>
+        requires { T.IsAlwaysCallable table }
+        ensures { (entries : Fixed → Option A) → Lists entries (T.post table) → Reads (entry entries self.old) result self.new }
+    {
+        match self.found(table) {
+            Some(entry) => {
+                self.step();
+                Ok(entry)
+            }
+            None => Err(self.refusal()),
         }
     }
 
-    pub fn add_operator(&self) -> Option<AddOperator>
-        ensures { result ≡ found tables.add_of (ahead self.now) }
+    /// What a table gives of the next token, and its place.
+    pub fn entry_at<A, T: Fn(Fixed) -> Option<A>>(
+        &mut self,
+        table: T,
+    ) -> Result<(A, usize), Refusal>
+        requires { T.IsAlwaysCallable table }
+        ensures { (entries : Fixed → Option A) → Lists entries (T.post table) → Reads (entry_at entries self.old) result self.new }
     {
-        match self.word() {
-            Some(word) => add_operator(word),
-            None => None,
-        }
-    }
-
-    pub fn multiply_operator(&self) -> Option<MultiplyOperator>
-        ensures { result ≡ found tables.multiply_of (ahead self.now) }
-    {
-        match self.word() {
-            Some(word) => multiply_operator(word),
-            None => None,
-        }
-    }
-
-    pub fn function(&self) -> Option<Function>
-        ensures { result ≡ found tables.function_of (ahead self.now) }
-    {
-        match self.word() {
-            Some(word) => function_word(word),
-            None => None,
-        }
-    }
-
-    pub fn truth(&self) -> Option<bool>
-        ensures { result ≡ found tables.truth_of (ahead self.now) }
-    {
-        match self.word() {
-            Some(word) => truth_value(word),
-            None => None,
-        }
-    }
-
-    pub fn sign(&self) -> Option<Sign>
-        ensures { result ≡ found tables.sign_of (ahead self.now) }
-    {
-        match self.word() {
-            Some(word) => sign_word(word),
-            None => None,
-        }
-    }
-
-    pub fn simple(&self) -> Option<Simple>
-        ensures { result ≡ found tables.simple_of (ahead self.now) }
-    {
-        match self.word() {
-            Some(word) => simple_type(word),
-            None => None,
-        }
-    }
-
-    pub fn block(&self) -> Option<BlockType>
-        ensures { result ≡ found tables.block_of (ahead self.now) }
-    {
-        match self.word() {
-            Some(word) => block_type(word),
-            None => None,
-        }
-    }
-
-    pub fn sees_equal_operator(&self) -> bool
-        ensures { result ≡ sees_some tables.equal_of (ahead self.now) }
-    {
-        self.equal_operator().is_some()
-    }
-
-    pub fn sees_compare_operator(&self) -> bool
-        ensures { result ≡ sees_some tables.compare_of (ahead self.now) }
-    {
-        self.compare_operator().is_some()
-    }
-
-    pub fn sees_add_operator(&self) -> bool
-        ensures { result ≡ sees_some tables.add_of (ahead self.now) }
-    {
-        self.add_operator().is_some()
-    }
-
-    pub fn sees_multiply_operator(&self) -> bool
-        ensures { result ≡ sees_some tables.multiply_of (ahead self.now) }
-    {
-        self.multiply_operator().is_some()
+        let place = self.place();
+        let entry = self.entry(table)?;
+        Ok((entry, place))
     }
 
     /// Nothing is left.
@@ -283,7 +219,7 @@ impl<'a> Cursor<'a> {
     pub fn sees_label(&self) -> bool
         ensures { result ≡ sees_label (ahead self.now) }
     {
-        self.sees_number() || self.sign().is_some()
+        self.sees_number() || self.sees_some(sign_word)
     }
 
     /// A statement comes next.

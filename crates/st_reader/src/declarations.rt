@@ -6,6 +6,7 @@ ghost use Rattle.st_reader.specs.ReadDeclarations as spec;
 use crate::cursor::Cursor;
 use crate::many::many;
 use crate::refusal::Refusal;
+use crate::tables::{block_type, sign_word, simple_type, truth_value};
 use st_tree::{
     Block, Constant, Declaration, DeclaredType, ExternalDeclaration, Fixed, Integer, Names,
     PlacedName, Sign, Simple,
@@ -15,12 +16,10 @@ use std::alloc::Global;
 fn sign(tokens: &mut Cursor<'_>) -> Result<Option<(Sign, usize)>, Refusal>
     ensures { Reads (spec.sign_part tokens.old) result tokens.new }
 {
-    let Some(sign) = tokens.sign() else {
+    if !tokens.sees_some(sign_word) {
         return Ok(None);
-    };
-    let place = tokens.place();
-    tokens.step();
-    Ok(Some((sign, place)))
+    }
+    Ok(Some(tokens.entry_at(sign_word)?))
 }
 
 #[tactic(auto, unfolding(crate::specs::ReadDeclarations::integer))]
@@ -40,9 +39,8 @@ pub fn integer(tokens: &mut Cursor<'_>) -> Result<Integer, Refusal>
 fn constant(tokens: &mut Cursor<'_>) -> Result<Constant, Refusal>
     ensures { Reads (spec.constant tokens.old) result tokens.new }
 {
-    if let Some(value) = tokens.truth() {
-        let place = tokens.place();
-        tokens.step();
+    if tokens.sees_some(truth_value) {
+        let (value, place) = tokens.entry_at(truth_value)?;
         return Ok(Constant::Truth(value, place));
     }
     Ok(Constant::Integer(integer(tokens)?))
@@ -51,11 +49,7 @@ fn constant(tokens: &mut Cursor<'_>) -> Result<Constant, Refusal>
 fn simple(tokens: &mut Cursor<'_>) -> Result<Simple, Refusal>
     ensures { Reads (spec.simple tokens.old) result tokens.new }
 {
-    let Some(simple) = tokens.simple() else {
-        return Err(tokens.refusal());
-    };
-    tokens.step();
-    Ok(simple)
+    tokens.entry(simple_type)
 }
 
 #[tactic(auto, unfolding(crate::specs::ReadDeclarations::array))]
@@ -80,15 +74,10 @@ fn declared_type(tokens: &mut Cursor<'_>) -> Result<DeclaredType, Refusal>
     if tokens.sees(Fixed::Array) {
         return array(tokens);
     }
-    if let Some(simple) = tokens.simple() {
-        tokens.step();
-        return Ok(DeclaredType::Simple(simple));
+    if tokens.sees_some(simple_type) {
+        return Ok(DeclaredType::Simple(simple(tokens)?));
     }
-    let Some(block) = tokens.block() else {
-        return Err(tokens.refusal());
-    };
-    tokens.step();
-    Ok(DeclaredType::Block(block))
+    Ok(DeclaredType::Block(tokens.entry(block_type)?))
 }
 
 #[tactic(auto, unfolding(crate::specs::ReadDeclarations::next_name))]

@@ -8,6 +8,9 @@ ghost use Rattle.st_reader.specs.Nests.{Nests};
 use crate::cursor::Cursor;
 use crate::many::many;
 use crate::refusal::Refusal;
+use crate::tables::{
+    add_operator, compare_operator, equal_operator, function_word, multiply_operator, truth_value,
+};
 use sqlite_items::Boxed;
 use st_tree::{
     AddOperator, Arguments, CompareOperator, Comparison, Conjunction, EqualOperator, Equality,
@@ -98,11 +101,7 @@ impl<F: Fn(Global, &mut Cursor<'_>, usize) -> Result<Expr, Refusal>> Expressions
         requires { Nests self.now.levels (F.pre self.now.inner) (F.post self.now.inner) }
         ensures { Reads (spec.call self.now.turns (expr_at self.now.levels) tokens.old) result tokens.new }
     {
-        let place = tokens.place();
-        let Some(function) = tokens.function() else {
-            return Err(tokens.refusal());
-        };
-        tokens.step();
+        let (function, place) = tokens.entry_at(function_word)?;
         tokens.expect(Fixed::OpenParen)?;
         let arguments = self.arguments(tokens)?;
         tokens.expect(Fixed::CloseParen)?;
@@ -119,9 +118,8 @@ impl<F: Fn(Global, &mut Cursor<'_>, usize) -> Result<Expr, Refusal>> Expressions
             let (number, place) = tokens.number()?;
             return Ok(Primary::Number(number, place));
         }
-        if let Some(value) = tokens.truth() {
-            let place = tokens.place();
-            tokens.step();
+        if tokens.sees_some(truth_value) {
+            let (value, place) = tokens.entry_at(truth_value)?;
             return Ok(Primary::Truth(value, place));
         }
         if tokens.sees_name() {
@@ -153,10 +151,7 @@ impl<F: Fn(Global, &mut Cursor<'_>, usize) -> Result<Expr, Refusal>> Expressions
         requires { Nests self.now.levels (F.pre self.now.inner) (F.post self.now.inner) }
         ensures { Reads (spec.factor self.now.turns (expr_at self.now.levels) tokens.old) result tokens.new }
     {
-        let Some(operator) = tokens.multiply_operator() else {
-            return Err(tokens.refusal());
-        };
-        tokens.step();
+        let operator = tokens.entry(multiply_operator)?;
         let operand = self.unary(tokens)?;
         Ok(Operation { operator, operand })
     }
@@ -171,7 +166,7 @@ impl<F: Fn(Global, &mut Cursor<'_>, usize) -> Result<Expr, Refusal>> Expressions
             self.alloc,
             self.turns,
             tokens,
-            |tokens| tokens.sees_multiply_operator(),
+            |tokens| tokens.sees_some(multiply_operator),
             |tokens| self.factor(tokens),
         )?;
         Ok(Product { first, more })
@@ -181,10 +176,7 @@ impl<F: Fn(Global, &mut Cursor<'_>, usize) -> Result<Expr, Refusal>> Expressions
         requires { Nests self.now.levels (F.pre self.now.inner) (F.post self.now.inner) }
         ensures { Reads (spec.term self.now.turns (expr_at self.now.levels) tokens.old) result tokens.new }
     {
-        let Some(operator) = tokens.add_operator() else {
-            return Err(tokens.refusal());
-        };
-        tokens.step();
+        let operator = tokens.entry(add_operator)?;
         let operand = self.product(tokens)?;
         Ok(Operation { operator, operand })
     }
@@ -199,7 +191,7 @@ impl<F: Fn(Global, &mut Cursor<'_>, usize) -> Result<Expr, Refusal>> Expressions
             self.alloc,
             self.turns,
             tokens,
-            |tokens| tokens.sees_add_operator(),
+            |tokens| tokens.sees_some(add_operator),
             |tokens| self.term(tokens),
         )?;
         Ok(Sum { first, more })
@@ -212,10 +204,7 @@ impl<F: Fn(Global, &mut Cursor<'_>, usize) -> Result<Expr, Refusal>> Expressions
         requires { Nests self.now.levels (F.pre self.now.inner) (F.post self.now.inner) }
         ensures { Reads (spec.compared_part self.now.turns (expr_at self.now.levels) tokens.old) result tokens.new }
     {
-        let Some(operator) = tokens.compare_operator() else {
-            return Err(tokens.refusal());
-        };
-        tokens.step();
+        let operator = tokens.entry(compare_operator)?;
         let operand = self.sum(tokens)?;
         Ok(Operation { operator, operand })
     }
@@ -230,7 +219,7 @@ impl<F: Fn(Global, &mut Cursor<'_>, usize) -> Result<Expr, Refusal>> Expressions
             self.alloc,
             self.turns,
             tokens,
-            |tokens| tokens.sees_compare_operator(),
+            |tokens| tokens.sees_some(compare_operator),
             |tokens| self.compared_part(tokens),
         )?;
         Ok(Comparison { first, more })
@@ -243,10 +232,7 @@ impl<F: Fn(Global, &mut Cursor<'_>, usize) -> Result<Expr, Refusal>> Expressions
         requires { Nests self.now.levels (F.pre self.now.inner) (F.post self.now.inner) }
         ensures { Reads (spec.equated_part self.now.turns (expr_at self.now.levels) tokens.old) result tokens.new }
     {
-        let Some(operator) = tokens.equal_operator() else {
-            return Err(tokens.refusal());
-        };
-        tokens.step();
+        let operator = tokens.entry(equal_operator)?;
         let operand = self.comparison(tokens)?;
         Ok(Operation { operator, operand })
     }
@@ -261,7 +247,7 @@ impl<F: Fn(Global, &mut Cursor<'_>, usize) -> Result<Expr, Refusal>> Expressions
             self.alloc,
             self.turns,
             tokens,
-            |tokens| tokens.sees_equal_operator(),
+            |tokens| tokens.sees_some(equal_operator),
             |tokens| self.equated_part(tokens),
         )?;
         Ok(Equality { first, more })
