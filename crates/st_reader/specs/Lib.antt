@@ -1,10 +1,1 @@
 pub mod Answers
-pub mod Parsers
-pub mod Tables
-pub mod ReadExpressions
-pub mod Nests
-pub mod Repeats
-pub mod ReadDeclarations
-pub mod ReadStatements
-pub mod ReadPrograms
-pub mod NestsStatements

@@ -6,8 +6,7 @@ ghost use Rattle.st_reader.specs.Answers.{IsRead, IsTree};
 
 use crate::fault::ReadFault;
 use crate::nesting::first_too_deep;
-use crate::program::whole;
-use crate::refusal::Refusal;
+use st_parser::{ParseFault, parse};
 use st_tree::{Tokens, Tree};
 use std::alloc::Global;
 
@@ -21,12 +20,9 @@ pub fn read_program(alloc: Global, tokens: &Tokens) -> Result<Tree, ReadFault>
     if let Some(token) = first_too_deep(tokens) {
         return Err(ReadFault::TooDeep { token });
     }
-    match whole(alloc, tokens) {
+    match parse(alloc, tokens) {
         Ok(tree) => Ok(tree),
-        Err(Refusal::NoMemory) => Err(ReadFault::NoMemory),
-        Err(Refusal::Left(left)) => {
-            let token = tokens.len().saturating_sub(left);
-            Err(ReadFault::Syntax { token })
-        }
+        Err(ParseFault::NoMemory) => Err(ReadFault::NoMemory),
+        Err(ParseFault::Syntax { token }) => Err(ReadFault::Syntax { token }),
     }
 }

@@ -1,0 +1,14 @@
+pub mod Turns
+pub mod Lawful
+pub mod Parts
+pub mod Choices
+pub mod Repeats
+pub mod Sets
+pub mod Tokens
+pub mod Spelling
+pub mod StatementSpelling
+pub mod ExpressionLaws
+pub mod DeclarationLaws
+pub mod StatementLaws
+pub mod ProgramLaws
+pub mod Levels

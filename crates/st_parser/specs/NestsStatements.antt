@@ -1,0 +1,16 @@
+-- A function value that reads the statements inside another.
+use Rattle.std.specs.Prelude.{ℕ, Result}
+use Rattle.std.specs.declared.alloc.Global.{Global}
+use denote.Ref.{MutBor}
+use Rattle.st_tree.specs.declared.token.Token.{Token}
+use Rattle.std.specs.Prelude.{List}
+use Rattle.st_tree.specs.declared.statement.Statement.{Statement}
+use Rattle.st_parser.specs.declared.refusal.Refusal.{Refusal}
+use Rattle.st_parser.specs.Parsers.{Reads}
+use Rattle.st_parser.specs.ReadStatements.{statements_at}
+
+pub record NestsStatements (levels : ℕ) (pre : Global → MutBor (List Token) → ℕ → Type 0)
+    (post : Global → MutBor (List Token) → ℕ → Result (List Statement) Refusal → MutBor (List Token) → Type 0) : Type 0 where
+  pub callable : (alloc : Global) (old : MutBor (List Token)) → pre alloc old levels
+  pub reads : (alloc : Global) (old new : MutBor (List Token)) (r : Result (List Statement) Refusal) → post alloc old levels r new
+      → Reads (statements_at levels old.now) r new.now
