@@ -1,9 +1,9 @@
 -- A block's words after a call.
 use Rattle.std.proofs.Common.{◌≡◌, ℕ, ◌+◌, ◌-◌, ◌<◌, ℤ, List, ◌++◌, length, take, drop, arith, sym, ap, refl, ◌∙◌}
 use borrow.Rule.Slice.PartMut.{post_of}
-use Rattle.scan_machine.specs.declared.blocks.BlockKind.{BlockKind}
-use Rattle.scan_machine.specs.declared.blocks.BlockKind.TheVariants as block
-use Rattle.scan_machine.specs.Blocks.{field_count, after_call}
+use Rattle.function_blocks.specs.declared.blocks.BlockKind.{BlockKind}
+use Rattle.function_blocks.specs.declared.blocks.BlockKind.TheVariants as block
+use Rattle.function_blocks.specs.Blocks.{field_count, after_call}
 use Rattle.scan_machine.specs.Machine.{words_at, with_words}
 
 pub length-after_call : (kind : BlockKind) (dt : ℤ) (fields : List ℤ) → length (after_call kind dt fields) ≡ field_count kind

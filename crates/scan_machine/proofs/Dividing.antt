@@ -4,9 +4,9 @@ use Rattle.std.proofs.Math.Nat.{div-le_self}
 use Rattle.std.specs.Prelude.{unsigned_abs, neg_ℤ}
 use Rattle.std.specs.Int.RustNames.{int_div, int_rem}
 use Rattle.std.proofs.lemmas.Int.{quot_is, rem_is, quot-rem, fits_signed_from_abs, fits_signed_mul, to_z-of_z, ints}
-use Rattle.scan_machine.specs.declared.kinds.Kind.{Kind}
+use Rattle.function_blocks.specs.declared.kinds.Kind.{Kind}
 use Rattle.scan_machine.specs.declared.numbers.Computed.{Computed}
-use Rattle.scan_machine.specs.Values.{IsOperand, is_on}
+use Rattle.function_blocks.specs.Values.{IsOperand, is_on}
 use Rattle.scan_machine.specs.Numbers.{exact, quotient, remainder}
 
 abs-neg : (n : ℕ) → unsigned_abs (neg_ℤ (pos n)) ≡ n

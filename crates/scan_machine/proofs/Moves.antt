@@ -8,12 +8,12 @@ use Rattle.std.proofs.lemmas.List.{get_or-set_other, get_or-drop, get_or-take}
 use Rattle.std.proofs.Math.Seq.{get_or-append_right}
 use Rattle.std.proofs.Math.ListN.{get_or-append}
 use Rattle.std.proofs.lemmas.Option.{same_Some, none-some}
-use Rattle.scan_machine.specs.declared.kinds.Kind.{Kind}
-use Rattle.scan_machine.specs.declared.blocks.BlockKind.{BlockKind}
+use Rattle.function_blocks.specs.declared.kinds.Kind.{Kind}
+use Rattle.function_blocks.specs.declared.blocks.BlockKind.{BlockKind}
 use Rattle.scan_machine.specs.declared.instructions.Instr.{Instr}
 use Rattle.scan_machine.specs.declared.instructions.Instr.TheVariants as i
-use Rattle.scan_machine.specs.Values.{is_on, clamped}
-use Rattle.scan_machine.specs.Blocks.{field_count, after_call}
+use Rattle.function_blocks.specs.Values.{is_on, clamped}
+use Rattle.function_blocks.specs.Blocks.{field_count, after_call}
 use Rattle.scan_machine.specs.Numbers.{bounded, element, is_past}
 use Rattle.scan_machine.specs.Rules.{Lies, array_reach, HasWords, HasConstants}
 use Rattle.scan_machine.specs.Machine.{State, Left, onward, store, operated, operate, load_at, stored, stored_at, chosen, called, read, with_words, words_at, does}

@@ -3,8 +3,8 @@ use Rattle.std.proofs.Common.{◌≡◌, ℕ, ◌+◌, ◌<◌, ◌↔◌, ℤ, 
 use Rattle.std.specs.Prelude.{unsigned_abs}
 use Rattle.std.specs.Int.RustNames.{int_le}
 use Rattle.std.proofs.lemmas.Int.{ints}
-use Rattle.scan_machine.specs.declared.kinds.Kind.{Kind}
-use Rattle.scan_machine.specs.declared.blocks.BlockKind.{BlockKind}
+use Rattle.function_blocks.specs.declared.kinds.Kind.{Kind}
+use Rattle.function_blocks.specs.declared.blocks.BlockKind.{BlockKind}
 use Rattle.scan_machine.specs.declared.instructions.Instr.{Instr}
 use Rattle.scan_machine.specs.declared.instructions.Instr.TheVariants as i
 use Rattle.scan_machine.specs.Rules.{array_reach, reach, Lies, HasWords}

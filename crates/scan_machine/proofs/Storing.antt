@@ -5,14 +5,14 @@ use Rattle.std.proofs.lemmas.Bool.{cases_lt, eq-eqb, eqb-true}
 use Rattle.std.proofs.lemmas.List.{get_or-drop, get_or-take, length-set}
 use Rattle.std.proofs.lemmas.Option.{same_Some, none-some, option_and_then_some, slice_get_within}
 use Rattle.tri_base.specs.Noted.{number_before, noted}
-use Rattle.scan_machine.specs.declared.kinds.Kind.{Kind}
-use Rattle.scan_machine.specs.declared.blocks.BlockKind.{BlockKind}
+use Rattle.function_blocks.specs.declared.kinds.Kind.{Kind}
+use Rattle.function_blocks.specs.declared.blocks.BlockKind.{BlockKind}
 use Rattle.scan_machine.specs.declared.instructions.Instr.{Instr}
 use Rattle.scan_machine.specs.declared.instructions.Instr.TheVariants as i
 use Rattle.scan_machine.specs.declared.verified.CodeRule.TheVariants as rule
-use Rattle.scan_machine.specs.Values.{is_on, clamped}
+use Rattle.function_blocks.specs.Values.{is_on, clamped}
 use Rattle.scan_machine.specs.Numbers.{bounded, element, is_past}
-use Rattle.scan_machine.specs.Blocks.{field_count, after_call}
+use Rattle.function_blocks.specs.Blocks.{field_count, after_call}
 use Rattle.scan_machine.specs.Rules.{HasWords, IsVerified}
 use Rattle.scan_machine.specs.Machine.{State, Left, onward, store, operated, operate, load_at, stored, stored_at, chosen, called, read, with_words, words_at, noted_all, does, next, after, at_start, at_end}
 use Rattle.scan_machine.specs.Laws.{NotesStores, HasNotedStores}

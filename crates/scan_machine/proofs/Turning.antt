@@ -2,10 +2,10 @@
 use Rattle.std.proofs.Common.{◌≡◌, ℕ, ◌+◌, ℤ, pos, ◌+ℤ◌, Bool, true, false, ◌||◌, if◌then◌else◌, List, ◌∷◌, Option, Some, sym, ap, ◌∙◌}
 use Rattle.std.specs.Prelude.{slice_index_or, slice_set}
 use Rattle.tri_base.specs.Noted.{noted}
-use Rattle.scan_machine.specs.declared.kinds.Kind.{Kind}
+use Rattle.function_blocks.specs.declared.kinds.Kind.{Kind}
 use Rattle.scan_machine.specs.declared.numbers.Computed.{Computed}
 use Rattle.scan_machine.specs.declared.instructions.Instr.TheVariants as i
-use Rattle.scan_machine.specs.Values.{clamped}
+use Rattle.function_blocks.specs.Values.{clamped}
 use Rattle.scan_machine.specs.Numbers.{bounded, element, is_past}
 use Rattle.scan_machine.specs.Machine.{State, onward, store, read, does, stored_at}
 use Rattle.scan_machine.specs.Checks.{StoresAt}

@@ -7,12 +7,12 @@ use Rattle.std.proofs.lemmas.Int.{ints, clamps, by_lt_z}
 use Rattle.std.proofs.lemmas.Bool.{cases_lt, lt-ltb, le-ltb, le-leb, lt-leb}
 use Rattle.std.proofs.lemmas.List.{get_or-set_same}
 use Rattle.std.proofs.lemmas.Option.{slice_get-get_or, slice_get_within, get_or_from_slice_get}
-use Rattle.scan_machine.specs.declared.kinds.Kind.{Kind}
-use Rattle.scan_machine.specs.declared.kinds.Kind.TheVariants as kind
+use Rattle.function_blocks.specs.declared.kinds.Kind.{Kind}
+use Rattle.function_blocks.specs.declared.kinds.Kind.TheVariants as kind
 use Rattle.scan_machine.specs.declared.instructions.Instr.{Instr}
 use Rattle.scan_machine.specs.declared.instructions.Instr.TheVariants as i
 use Rattle.scan_machine.specs.declared.verified.CodeRule.TheVariants as rule
-use Rattle.scan_machine.specs.Values.{is_on, number, clamped}
+use Rattle.function_blocks.specs.Values.{is_on, number, clamped}
 use Rattle.scan_machine.specs.Numbers.{is_past}
 use Rattle.scan_machine.specs.Machine.{read}
 use Rattle.scan_machine.specs.Rules.{IsOf, HasConstants, HasTarget, HasLoop, Lies, store_reach, IsVerified}

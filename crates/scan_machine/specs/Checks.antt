@@ -5,7 +5,7 @@ use Rattle.scan_machine.specs.declared.instructions.Instr.TheVariants as i
 use Rattle.scan_machine.specs.declared.verified.CodeRule.{CodeRule}
 use Rattle.scan_machine.specs.declared.verified.CodeRule.TheVariants as rule
 use Rattle.scan_machine.specs.declared.verified.BadCode.{BadCode}
-use Rattle.scan_machine.specs.declared.kinds.Kind.{Kind}
+use Rattle.function_blocks.specs.declared.kinds.Kind.{Kind}
 use Rattle.scan_machine.specs.Machine.{stored_at}
 use Rattle.scan_machine.specs.Rules.{HasTarget, HasDepth, depth_at, IsTarget, NamesTarget, Lies, store_reach, Keeps, rank}
 

@@ -1,5 +1,5 @@
-pub mod Values
-pub mod Blocks
+pub use Rattle.function_blocks.specs.Values
+pub use Rattle.function_blocks.specs.Blocks
 pub mod Rules
 pub mod Checks
 pub mod Numbers

@@ -5,13 +5,13 @@ use Rattle.std.specs.Int.{int_max, int_min}
 use Rattle.std.specs.Int.RustNames.{int_le}
 use Rattle.std.specs.Ordering.{int_eq}
 use Rattle.tri_base.specs.Noted.{noted}
-use Rattle.scan_machine.specs.declared.kinds.Kind.{Kind}
-use Rattle.scan_machine.specs.declared.blocks.BlockKind.{BlockKind}
+use Rattle.function_blocks.specs.declared.kinds.Kind.{Kind}
+use Rattle.function_blocks.specs.declared.blocks.BlockKind.{BlockKind}
 use Rattle.scan_machine.specs.declared.numbers.Computed.{Computed}
 use Rattle.scan_machine.specs.declared.instructions.Instr.{Instr}
 use Rattle.scan_machine.specs.declared.instructions.Instr.TheVariants as i
-use Rattle.scan_machine.specs.Values.{is_on, number, clamped}
-use Rattle.scan_machine.specs.Blocks.{field_count, after_call}
+use Rattle.function_blocks.specs.Values.{is_on, number, clamped}
+use Rattle.function_blocks.specs.Blocks.{field_count, after_call}
 use Rattle.scan_machine.specs.Numbers.{exact, quotient, remainder, bounded, element, is_past}
 
 -- ---- operands

@@ -3,9 +3,9 @@ use Rattle.std.specs.Prelude.{ℕ, ◌+◌, ℤ, pos, ◌-ℤ◌, ◌*ℤ◌, in
 use Rattle.std.specs.Int.{int_max, int_min}
 use Rattle.std.specs.Int.RustNames.{int_div}
 use Rattle.std.specs.Ordering.{int_eq}
-use Rattle.scan_machine.specs.declared.kinds.Kind.{Kind}
+use Rattle.function_blocks.specs.declared.kinds.Kind.{Kind}
 use Rattle.scan_machine.specs.declared.numbers.Computed.{Computed}
-use Rattle.scan_machine.specs.Values.{is_on, clamped}
+use Rattle.function_blocks.specs.Values.{is_on, clamped}
 
 -- a computed number is clamped to the kind, with the flag where that changes it
 abbrev pub exact : Kind → ℤ → Computed

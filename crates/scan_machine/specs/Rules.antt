@@ -1,14 +1,14 @@
 -- The five rules that each instruction of verified code keeps, as statements about the whole list.
 use Rattle.std.specs.Prelude.{◌≡◌, ℕ, ◌+◌, ◌-◌, ◌<◌, ◌≤◌, ℤ, pos, negsuc, ◌≤ℤ◌, ◌-ℤ◌, ◌≢◌, ◌⊎◌, List, Option, None, Some, length, take, fold, slice_get, unsigned_abs, IfSome, if◌then◌else◌}
 use Rattle.std.specs.Int.RustNames.{int_le}
-use Rattle.scan_machine.specs.declared.kinds.Kind.{Kind}
+use Rattle.function_blocks.specs.declared.kinds.Kind.{Kind}
 use Rattle.scan_machine.specs.declared.instructions.Instr.{Instr}
 use Rattle.scan_machine.specs.declared.instructions.Instr.TheVariants as i
 use Rattle.scan_machine.specs.declared.verified.CodeRule.{CodeRule}
 use Rattle.scan_machine.specs.declared.verified.CodeRule.TheVariants as rule
 use Rattle.scan_machine.specs.declared.verified.BadCode.{BadCode}
-use Rattle.scan_machine.specs.Values.{least, greatest, IsOperand}
-use Rattle.scan_machine.specs.Blocks.{field_count}
+use Rattle.function_blocks.specs.Values.{least, greatest, IsOperand}
+use Rattle.function_blocks.specs.Blocks.{field_count}
 
 -- ---- Address
 

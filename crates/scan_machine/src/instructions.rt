@@ -1,8 +1,7 @@
 ghost use Rattle.std.specs.Prelude.{◌≡◌, ◌≤◌};
 ghost use Rattle.scan_machine.specs.Rules.{array_reach, reach, store_reach, takes, gives, named};
 
-use crate::blocks::BlockKind;
-use crate::kinds::Kind;
+use function_blocks::{BlockKind, Kind};
 
 /// One instruction of the scan machine. Operands are pushed in the order of the source: the last
 /// one is on top.

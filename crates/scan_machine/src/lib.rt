@@ -2,14 +2,9 @@
 //! run of code that keeps them.
 #![tactic(auto)]
 
-pub mod blocks;
-mod counters;
 pub mod counting;
 mod depths;
-mod fields;
 pub mod instructions;
-pub mod kinds;
-mod latches;
 pub mod laws;
 mod machine;
 mod numbers;
@@ -17,15 +12,13 @@ mod operations;
 mod rules;
 pub mod running;
 mod stack;
-mod timers;
 pub mod verified;
 
-pub use crate::blocks::{BlockKind, step_block};
 pub use crate::counting::Steps;
 pub use crate::instructions::Instr;
-pub use crate::kinds::Kind;
 pub use crate::running::run;
 pub use crate::verified::{BadCode, Code, CodeRule};
+pub use function_blocks::{BlockKind, Kind, step_block};
 
 #[cfg(test)]
 mod tests;

@@ -2,19 +2,18 @@
 
 ghost use Rattle.std.specs.Prelude.{ℕ, ◌||◌, ◌≡◌, ◌<◌, ◌≤◌, ◌+◌, ◌^◌, ◌≤ℤ◌, ◌-ℤ◌, pos, ◌∷◌, Some, length, slice_set, slice_index_or, unsigned_abs};
 ghost use Rattle.tri_base.specs.Noted.{noted};
-ghost use Rattle.scan_machine.specs.Values.{IsOperand};
+ghost use Rattle.function_blocks.specs.Values.{IsOperand};
 ghost use Rattle.scan_machine.specs.Checks.{GoesOn, StoresAt};
-ghost use Rattle.scan_machine.specs.Blocks.{field_count, after_call};
+ghost use Rattle.function_blocks.specs.Blocks.{field_count, after_call};
 ghost use Rattle.scan_machine.specs.Numbers.{bounded, element};
 ghost use Rattle.scan_machine.specs.Rules.{HasWords, HasConstants, AreBounds, takes, gives};
 ghost use Rattle.scan_machine.specs.Machine.{does, load_at, noted_all, words_at, with_words};
 
-use crate::blocks::{BlockKind, step_block};
 use crate::instructions::Instr;
-use crate::kinds::{Kind, clamp_to, is_on};
 use crate::numbers::{bounded, is_past};
 use crate::operations::operate;
 use crate::stack::Operands;
+use function_blocks::{BlockKind, Kind, clamp_to, is_on, step_block};
 use tri_base::Touched;
 
 /// Does one instruction, and says which one comes next.

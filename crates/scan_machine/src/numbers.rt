@@ -2,9 +2,9 @@
 
 ghost use Rattle.std.specs.Prelude.{◌≡◌, ◌≤ℤ◌, ◌+ℤ◌, ◌-ℤ◌, pos, negsuc};
 ghost use Rattle.scan_machine.specs.Numbers.{exact, quotient, remainder, bounded, is_past};
-ghost use Rattle.scan_machine.specs.Values.{IsOperand};
+ghost use Rattle.function_blocks.specs.Values.{IsOperand};
 
-use crate::kinds::{Kind, clamp_to};
+use function_blocks::{Kind, clamp_to};
 
 /// A number and whether it was clamped.
 #[derive(Clone, Copy)]

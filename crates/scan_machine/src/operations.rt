@@ -4,15 +4,15 @@ ghost use Rattle.std.specs.Prelude.{◌≡◌, ◌≤◌, ◌+◌, ◌-◌, ℤ,
 ghost use Rattle.scan_machine.specs.Rules.{takes, gives};
 ghost use Rattle.scan_machine.specs.Machine.{operate, on_top, answer, one_operand};
 ghost use Rattle.scan_machine.specs.Checks.{IsArithmetic, IsTest, IsBinary, IsUnary, IsTernary, IsOperation};
-ghost use Rattle.scan_machine.specs.Values.{IsOperand};
+ghost use Rattle.function_blocks.specs.Values.{IsOperand};
 ghost use Rattle.std.specs.Prelude.{◌&&◌};
 ghost use Rattle.std.specs.Int.{int_max, int_min};
 ghost use Rattle.std.specs.Int.RustNames.{int_le};
 
 use crate::instructions::Instr;
-use crate::kinds::is_on;
 use crate::numbers::{Computed, exact, quotient, remainder};
 use crate::stack::Operands;
+use function_blocks::is_on;
 
 /// Does an instruction that works on operands alone, and says whether a number was clamped.
 #[inline]

@@ -2,11 +2,11 @@
 
 ghost use Rattle.std.specs.Prelude.{◌≡◌, ◌+◌, ◌<◌, ◌≤◌, ◌↔◌, ℕ, length, slice_get, IsTrue, IfSome};
 ghost use Rattle.scan_machine.specs.Rules.{HasWords, HasConstants, HasTarget, HasDepth, HasLoop, IsOf, AreBounds, EmptiesStack, Lies, store_reach};
-ghost use Rattle.scan_machine.specs.Values.{IsOperand, least, greatest};
+ghost use Rattle.function_blocks.specs.Values.{IsOperand, least, greatest};
 ghost use Rattle.scan_machine.specs.Checks.{StartsFrom, IsAlone, HaveTargets};
 
 use crate::instructions::Instr;
-use crate::kinds::Kind;
+use function_blocks::Kind;
 
 /// Whether all words that the instruction can touch are there.
 pub(crate) fn has_words(instr: &Instr, words: usize) -> bool

@@ -1,7 +1,7 @@
 // The operand stack.
 
 ghost use Rattle.std.specs.Prelude.{◌≡◌, ◌<◌, ◌≤◌, [], ◌∷◌, length};
-ghost use Rattle.scan_machine.specs.Values.{IsOperand};
+ghost use Rattle.function_blocks.specs.Values.{IsOperand};
 
 use crate::numbers::Computed;
 use arrayvec::ArrayVec;
@@ -18,7 +18,7 @@ pub(crate) struct Operands {
 
 impl Model for Operands {
     ghost use Rattle.std.specs.Prelude.{ℤ, List, reverse};
-    ghost use Rattle.scan_machine.specs.Values.{AreOperands};
+    ghost use Rattle.function_blocks.specs.Values.{AreOperands};
 
     ghost Value = { List ℤ };
 
@@ -29,7 +29,7 @@ impl Model for Operands {
 
 impl Operands {
     ghost use Rattle.std.specs.Prelude.{◌≡◌, ◌<◌, ◌≤◌, [], ◌∷◌, length};
-    ghost use Rattle.scan_machine.specs.Values.{IsOperand};
+    ghost use Rattle.function_blocks.specs.Values.{IsOperand};
 
     /// No operand.
     pub fn new() -> Self

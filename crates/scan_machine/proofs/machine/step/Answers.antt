@@ -4,7 +4,7 @@ use Rattle.std.specs.Prelude.{slice_index_or}
 use Rattle.tri_base.specs.Noted.{TouchedValue}
 use Rattle.scan_machine.specs.declared.instructions.Instr.{Instr}
 use Rattle.scan_machine.specs.declared.instructions.Instr.TheVariants as i
-use Rattle.scan_machine.specs.Values.{clamped}
+use Rattle.function_blocks.specs.Values.{clamped}
 use Rattle.scan_machine.specs.Rules.{HasConstants, reach}
 use Rattle.scan_machine.specs.Machine.{State, read, does}
 use Rattle.scan_machine.proofs.Reaches.{reach_there, goes_on}

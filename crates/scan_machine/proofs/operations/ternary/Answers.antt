@@ -2,7 +2,7 @@ use Rattle.std.proofs.Common.{◌≡◌, Bool, true, false, if◌then◌else◌,
 use Rattle.std.specs.Int.{int_max, int_min}
 use Rattle.std.proofs.lemmas.Int.{ints, clamps}
 use Rattle.scan_machine.specs.declared.instructions.Instr.{Instr}
-use Rattle.scan_machine.specs.Values.{is_on}
+use Rattle.function_blocks.specs.Values.{is_on}
 use Rattle.scan_machine.specs.Machine.{operate, one_operand}
 use Rattle.scan_machine.proofs.Doing.{passed, passed-same}
 use Rattle.scan_machine.proofs.operations.ternary.Goals as goal

@@ -2,7 +2,7 @@ use Rattle.std.proofs.Common.{◌≡◌, Bool, not, ◌&&◌, ◌∷◌, arith, 
 use Rattle.std.specs.Int.RustNames.{int_le}
 use Rattle.std.proofs.lemmas.Int.{ints}
 use Rattle.scan_machine.specs.declared.instructions.Instr.{Instr}
-use Rattle.scan_machine.specs.Values.{is_on}
+use Rattle.function_blocks.specs.Values.{is_on}
 use Rattle.scan_machine.specs.Machine.{operate, answer}
 use Rattle.scan_machine.proofs.Doing.{passed, passed-same}
 use Rattle.scan_machine.proofs.operations.unary.Goals as goal

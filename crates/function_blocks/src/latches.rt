@@ -1,7 +1,7 @@
 // Edge detection and bistable elements.
 
 ghost use Rattle.std.specs.Prelude.{◌≡◌, length};
-ghost use Rattle.scan_machine.specs.Blocks.{r_trig, f_trig, sr, rs};
+ghost use Rattle.function_blocks.specs.Blocks.{r_trig, f_trig, sr, rs};
 
 /// R_TRIG.
 pub(crate) fn rising_edge(fields: &mut [i64])

@@ -1,8 +1,8 @@
 // Timers.
 
 ghost use Rattle.std.specs.Prelude.{◌≡◌, ◌≤ℤ◌, pos, length};
-ghost use Rattle.scan_machine.specs.Blocks.{elapsed, preset, timer, delayed_on, delayed_off, pulsed, ton, tof, tp};
-ghost use Rattle.scan_machine.specs.Values.{IsOperand};
+ghost use Rattle.function_blocks.specs.Blocks.{elapsed, preset, timer, delayed_on, delayed_off, pulsed, ton, tof, tp};
+ghost use Rattle.function_blocks.specs.Values.{IsOperand};
 
 use crate::fields::{read_bool, read_dint};
 

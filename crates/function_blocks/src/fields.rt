@@ -1,8 +1,8 @@
 // The fields of a block, read in their types.
 
 ghost use Rattle.std.specs.Prelude.{◌≡◌, ◌<◌, length};
-ghost use Rattle.scan_machine.specs.Blocks.{bool_at, int_at, dint_at};
-ghost use Rattle.scan_machine.specs.Values.{IsOperand};
+ghost use Rattle.function_blocks.specs.Blocks.{bool_at, int_at, dint_at};
+ghost use Rattle.function_blocks.specs.Values.{IsOperand};
 
 use crate::kinds::{Kind, clamp_to};
 

@@ -1,5 +1,5 @@
 ghost use Rattle.std.specs.Prelude.{◌≡◌, ◌≤ℤ◌, pos, length};
-ghost use Rattle.scan_machine.specs.Blocks.{field_count, after_call};
+ghost use Rattle.function_blocks.specs.Blocks.{field_count, after_call};
 
 use crate::counters::{count_down, count_up};
 use crate::latches::{falling_edge, reset_first, rising_edge, set_first};

@@ -1,5 +1,5 @@
 ghost use Rattle.std.specs.Prelude.{◌≡◌, ◌≤ℤ◌};
-ghost use Rattle.scan_machine.specs.Values.{clamped, is_on, IsOperand};
+ghost use Rattle.function_blocks.specs.Values.{clamped, is_on, IsOperand};
 
 /// The type of a word.
 #[derive(Clone, Copy, Debug, PartialEq, Eq)]
@@ -27,7 +27,7 @@ pub fn clamp_to(kind: Kind, value: i64) -> i64
 
 /// Whether a number counts as TRUE.
 #[inline]
-pub(crate) fn is_on(value: i64) -> bool
+pub fn is_on(value: i64) -> bool
     ensures { result ≡ is_on value }
 {
     value != 0

@@ -5,10 +5,10 @@
 use Rattle.std.specs.Prelude.{ℕ, ℤ, pos, negsuc, ◌+ℤ◌, ◌-ℤ◌, Bool, true, false, not, ◌&&◌, ◌||◌, if◌then◌else◌, List, [], ◌∷◌, int_lt, slice_index_or}
 use Rattle.std.specs.Int.{int_max, int_min}
 use Rattle.std.specs.Int.RustNames.{int_le}
-use Rattle.scan_machine.specs.declared.kinds.Kind.TheVariants.{Int, Dint}
-use Rattle.scan_machine.specs.declared.blocks.BlockKind.{BlockKind}
-use Rattle.scan_machine.specs.declared.blocks.BlockKind.TheVariants as block
-use Rattle.scan_machine.specs.Values.{is_on, number, clamped}
+use Rattle.function_blocks.specs.declared.kinds.Kind.TheVariants.{Int, Dint}
+use Rattle.function_blocks.specs.declared.blocks.BlockKind.{BlockKind}
+use Rattle.function_blocks.specs.declared.blocks.BlockKind.TheVariants as block
+use Rattle.function_blocks.specs.Values.{is_on, number, clamped}
 
 -- how many fields a block has
 abbrev pub field_count : BlockKind → ℕ

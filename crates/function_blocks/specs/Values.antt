@@ -1,8 +1,8 @@
 -- The values of a word: BOOL is 0 or 1, INT 16 bits and DINT 32 bits, both signed (IEC 61131-3:2013, 6.4.2).
 use Rattle.std.specs.Prelude.{ℤ, pos, negsuc, ◌≤ℤ◌, Bool, true, false, zero, suc, List, [], ◌∷◌}
 use Rattle.std.specs.Int.{int_max, int_min}
-use Rattle.scan_machine.specs.declared.kinds.Kind.{Kind}
-use Rattle.scan_machine.specs.declared.kinds.Kind.TheVariants as kind
+use Rattle.function_blocks.specs.declared.kinds.Kind.{Kind}
+use Rattle.function_blocks.specs.declared.kinds.Kind.TheVariants as kind
 
 -- the least value of a kind
 abbrev pub least : Kind → ℤ

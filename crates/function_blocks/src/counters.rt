@@ -1,8 +1,8 @@
 // Counters.
 
 ghost use Rattle.std.specs.Prelude.{◌≡◌, length};
-ghost use Rattle.scan_machine.specs.Blocks.{counted_up, counted_down, counter, ctu, ctd};
-ghost use Rattle.scan_machine.specs.Values.{IsOperand};
+ghost use Rattle.function_blocks.specs.Blocks.{counted_up, counted_down, counter, ctu, ctd};
+ghost use Rattle.function_blocks.specs.Values.{IsOperand};
 
 use crate::fields::{read_bool, read_int};
 
