@@ -1,5 +1,5 @@
 -- The grammar of expressions (IEC 61131-3:2013, 7.3.2): what each part spells, where its parts spell these pieces.
-use Rattle.std.specs.Prelude.{ℕ, Bool, true, false, List, [], ◌∷◌, ◌++◌}
+use Rattle.std.specs.Prelude.{Bool, true, false, List}
 use Rattle.st_tree.specs.declared.token.Fixed.{Fixed}
 use Rattle.st_tree.specs.declared.token.Fixed.TheVariants as w
 use Rattle.st_tree.specs.declared.expression.Operation.{Operation}

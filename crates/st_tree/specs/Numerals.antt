@@ -1,5 +1,5 @@
 -- How numbers are written (IEC 61131-3:2013, 6.3.2).
-use Rattle.std.specs.Prelude.{ℕ, ◌+◌, ◌-◌, ◌*◌, ◌==◌, nat_lt, nat_le, Bool, true, false, ◌&&◌, ◌||◌, if◌then◌else◌, List, [], ◌∷◌, drop, fold, slice_index, Result, Ok, Err}
+use Rattle.std.specs.Prelude.{ℕ, ◌+◌, ◌-◌, ◌*◌, ◌==◌, nat_lt, nat_le, Bool, true, false, ◌&&◌, if◌then◌else◌, List, [], ◌∷◌, drop, fold, slice_index, Result, Ok, Err}
 use Rattle.tri_base.specs.declared.faults.LexCause.{LexCause}
 use Rattle.tri_base.specs.declared.faults.LexCause.TheVariants.{BadNumber, NumberTooLarge}
 

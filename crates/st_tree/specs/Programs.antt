@@ -1,5 +1,5 @@
 -- Programs: the tokens that a tree spells, and the first token with which no program goes on.
-use Rattle.std.specs.Prelude.{◌≡◌, ◌<◌, ◌≤◌, ◌+◌, ℕ, List, [], ◌∷◌, ◌++◌, length, take}
+use Rattle.std.specs.Prelude.{◌<◌, ◌≤◌, ◌+◌, ℕ, List, ◌++◌, length, take}
 use Rattle.st_tree.specs.declared.token.Fixed.TheVariants as w
 use Rattle.st_tree.specs.declared.token.Token.{Token}
 use Rattle.st_tree.specs.declared.program.Tree.{Tree}

@@ -1,7 +1,6 @@
 -- The grammar of statements (IEC 61131-3:2013, 7.3.3): what each part spells, where its statements spell these pieces.
-use Rattle.std.specs.Prelude.{ℕ, List, [], ◌∷◌, ◌++◌, Option, Some, None}
+use Rattle.std.specs.Prelude.{List, Option}
 use Rattle.st_tree.specs.declared.token.Fixed.TheVariants as w
-use Rattle.st_tree.specs.declared.declaration.Integer.{Integer}
 use Rattle.st_tree.specs.declared.statement.Assignment.{Assignment}
 use Rattle.st_tree.specs.declared.statement.Input.{Input}
 use Rattle.st_tree.specs.declared.statement.Inputs.{Inputs}

@@ -8,6 +8,7 @@ mod statement;
 mod tag_type;
 mod token;
 mod tokens;
+mod typed;
 
 pub use declaration::{
     Block, BlockType, Constant, Declaration, DeclaredType, ExternalDeclaration, Integer, Names,
@@ -22,3 +23,4 @@ pub use statement::{Assignment, BlockCall, Branch, Element, Input, Inputs, Label
 pub use tag_type::{Simple, TagType};
 pub use token::{Fixed, Token, TokenKind};
 pub use tokens::Tokens;
+pub use typed::Typed;
