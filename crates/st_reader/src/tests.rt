@@ -59,6 +59,59 @@ fn number(alloc: Global, bytes: &[u8]) -> Option<u32> {
     }
 }
 
+/// Whether a text's tokens are these: a name (n), a number (1) or a reserved word or symbol (w), and its place.
+fn has_tokens(alloc: Global, bytes: &[u8], wanted: &[(u8, usize)]) -> bool {
+    let mut text = Text::new(alloc);
+    if push_bytes(&mut text, bytes).is_err() {
+        return false;
+    }
+    let Ok(tokens) = lex(alloc, &text) else {
+        return false;
+    };
+    if tokens.items().len() != wanted.len() {
+        return false;
+    }
+    for (token, wanted) in tokens.items().iter().zip(wanted) {
+        let sort = match token.kind {
+            TokenKind::Name(_) => b'n',
+            TokenKind::Number(_) => b'1',
+            TokenKind::Fixed(_) => b'w',
+        };
+        if sort != wanted.0 || token.place != wanted.1 {
+            return false;
+        }
+    }
+    true
+}
+
+#[test]
+fn tokens_are_the_longest_there_are(rt: HostRuntime) -> Result<(), Fail> {
+    let rows: [(&[u8], &[(u8, usize)]); 18] = [
+        (b"", &[]),
+        (b" \t\r\n", &[]),
+        (b"A(*b*)C", &[(b'n', 0), (b'n', 6)]),
+        (b"1(**)2", &[(b'1', 0), (b'1', 5)]),
+        (b"(* \x00\xff $ *)A", &[(b'n', 10)]),
+        (b"(* (* *) *)", &[(b'w', 9), (b'w', 10)]),
+        (b"F(*x*)(A)", &[(b'n', 0), (b'w', 6), (b'n', 7), (b'w', 8)]),
+        (b": =", &[(b'w', 0), (b'w', 2)]),
+        (b":=:", &[(b'w', 0), (b'w', 2)]),
+        (b"<>=", &[(b'w', 0), (b'w', 2)]),
+        (b"...", &[(b'w', 0), (b'w', 2)]),
+        (b"1..3", &[(b'1', 0), (b'w', 1), (b'1', 3)]),
+        (b"1.5", &[(b'1', 0), (b'w', 1), (b'1', 2)]),
+        (b"5..-1", &[(b'1', 0), (b'w', 1), (b'w', 3), (b'1', 4)]),
+        (b"_ __A a1", &[(b'n', 0), (b'n', 2), (b'n', 6)]),
+        (b"S R sr RS_", &[(b'n', 0), (b'n', 2), (b'w', 4), (b'n', 7)]),
+        (b"00 007", &[(b'1', 0), (b'1', 3)]),
+        (b"ABCDEFGHIJKLMNOPQRSTUVWXYZ_12345", &[(b'n', 0)]),
+    ];
+    for row in rows.iter() {
+        assert!(rt; has_tokens(rt.alloc(), row.0, row.1), "{:?}", row.0);
+    }
+    Ok(())
+}
+
 #[test]
 fn numbers_have_bases_and_underscores(rt: HostRuntime) -> Result<(), Fail> {
     let rows: [(&[u8], u32); 7] = [
@@ -78,7 +131,7 @@ fn numbers_have_bases_and_underscores(rt: HostRuntime) -> Result<(), Fail> {
 
 #[test]
 fn lexical_faults_are_at_their_first_byte(rt: HostRuntime) -> Result<(), Fail> {
-    let rows: [(&[u8], Answer); 17] = [
+    let rows: [(&[u8], Answer); 29] = [
         (b" 1__0", Answer::Lex(1, LexCause::BadNumber)),
         (b"5_", Answer::Lex(0, LexCause::BadNumber)),
         (b"2#12", Answer::Lex(0, LexCause::BadNumber)),
@@ -87,6 +140,24 @@ fn lexical_faults_are_at_their_first_byte(rt: HostRuntime) -> Result<(), Fail> {
         (b"16#_F", Answer::Lex(0, LexCause::BadNumber)),
         (b"9X", Answer::Lex(0, LexCause::BadNumber)),
         (b"99999999999X", Answer::Lex(0, LexCause::BadNumber)),
+        (b"1OF", Answer::Lex(0, LexCause::BadNumber)),
+        (b"1TO", Answer::Lex(0, LexCause::BadNumber)),
+        (b"16#G", Answer::Lex(0, LexCause::BadNumber)),
+        (b"1_6#F", Answer::Lex(0, LexCause::BadNumber)),
+        (b"02#1", Answer::Lex(0, LexCause::BadNumber)),
+        (b"16#F#", Answer::Lex(0, LexCause::BadNumber)),
+        (
+            b"1ABCDEFGHIJKLMNOPQRSTUVWXYZABCDEFGHIJKLMN",
+            Answer::Lex(0, LexCause::BadNumber),
+        ),
+        (
+            b"ABCDEFGHIJKLMNOPQRSTUVWXYZABCDEFG#",
+            Answer::Lex(0, LexCause::NameTooLong),
+        ),
+        (b"X := (*Y)", Answer::Lex(5, LexCause::OpenComment)),
+        (b"A\x00", Answer::Lex(1, LexCause::BadByte)),
+        (b"A \xc3\xa4", Answer::Lex(2, LexCause::BadByte)),
+        (b"A \"", Answer::Lex(2, LexCause::BadByte)),
         (b"2147483649", Answer::Lex(0, LexCause::NumberTooLarge)),
         (
             b"PROGRAM P X := 1 (* a",
@@ -111,7 +182,7 @@ fn lexical_faults_are_at_their_first_byte(rt: HostRuntime) -> Result<(), Fail> {
 
 #[test]
 fn syntax_faults_are_at_the_first_impossible_token(rt: HostRuntime) -> Result<(), Fail> {
-    let rows: [(&[u8], Answer); 20] = [
+    let rows: [(&[u8], Answer); 24] = [
         (b"", Answer::Syntax(0)),
         (b"PROGRAM P X := ; END_PROGRAM", Answer::Syntax(4)),
         (b"PROGRAM P X := 1", Answer::Syntax(5)),
@@ -128,6 +199,10 @@ fn syntax_faults_are_at_the_first_impossible_token(rt: HostRuntime) -> Result<()
         (b"PROGRAM P X := ABS();", Answer::Syntax(6)),
         (b"PROGRAM P X := NOT NOT B;", Answer::Syntax(5)),
         (b"PROGRAM P CASE X OF ELSE", Answer::Syntax(5)),
+        (b"PROGRAM P CASE X OF END_CASE", Answer::Syntax(5)),
+        (b"PROGRAM P X := - NOT X;", Answer::Syntax(5)),
+        (b"PROGRAM P ABS(X);", Answer::Syntax(2)),
+        (b"PROGRAM P VAR IF", Answer::Syntax(3)),
         (b"PROGRAM P X := +1;", Answer::Syntax(4)),
         (b"PROGRAM P ; VAR END_VAR", Answer::Syntax(3)),
         (b"PROGRAM P VAR_EXTERNAL X : INT := 1;", Answer::Syntax(6)),
@@ -181,5 +256,8 @@ fn nested(alloc: Global, brackets: usize) -> Answer {
 fn nesting_goes_to_64(rt: HostRuntime) -> Result<(), Fail> {
     assert_eq!(rt; nested(rt.alloc(), 64), Answer::Read);
     assert_eq!(rt; nested(rt.alloc(), 65), Answer::TooDeep(74));
+    let brackets = [b'('; 65];
+    assert_eq!(rt; read(rt.alloc(), &brackets), Answer::TooDeep(64));
+    assert_eq!(rt; read(rt.alloc(), &brackets[..64]), Answer::Syntax(0));
     Ok(())
 }
