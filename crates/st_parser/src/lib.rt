@@ -1,4 +1,4 @@
-//! Parses a Structured Text program: from its tokens to the tree that spells them.
+//! Parses a Structured Text program: how deep its tokens nest, and the tree that spells them.
 #![tactic(auto)]
 
 mod cursor;
@@ -7,6 +7,7 @@ mod expressions;
 mod fault;
 mod laws;
 mod many;
+mod nesting;
 mod parser;
 mod program;
 mod refusal;
@@ -15,6 +16,7 @@ mod tables;
 
 pub use fault::ParseFault;
 pub use laws::one_tree;
+pub use nesting::first_too_deep;
 pub use parser::parse;
 
 #[cfg(test)]

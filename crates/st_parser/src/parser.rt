@@ -11,7 +11,7 @@ use st_tree::{Token, Tree};
 use std::alloc::Global;
 
 /// The program that the tokens spell, or the first token with which no program goes on. Tokens count from 0.
-/// The recursion goes as deep as the tokens nest.
+/// The recursion goes as deep as the tokens nest: `first_too_deep` tells whether they are for this call.
 pub fn parse(alloc: Global, tokens: &[Token]) -> Result<Tree, ParseFault>
     requires { first_too_deep tokens.now ≡ None }
     ensures answer { IsParsed tokens.now result }

@@ -1,4 +1,4 @@
-use crate::{ParseFault, parse};
+use crate::{ParseFault, first_too_deep, parse};
 use st_tree::{
     AddOperator, Expr, Fixed, MultiplyOperator, Primary, Product, Statement, Sum, TokenKind,
     Tokens, Tree, Unary,
@@ -15,15 +15,16 @@ fn name(bytes: &[u8]) -> TokenKind {
     }
 }
 
-/// What these tokens are parsed to, at the places 0, 10, 20 and on.
+/// What these tokens are parsed to, at the places 0, 1, 2 and on.
 fn parsed(alloc: Global, kinds: &[TokenKind]) -> Result<Tree, ParseFault> {
     let mut tokens = Tokens::new(alloc);
-    let mut place = 0;
-    for kind in kinds.iter() {
+    for (place, kind) in kinds.iter().enumerate() {
         tokens.add(*kind, place).map_err(|_| ParseFault::NoMemory)?;
-        place += 10;
     }
-    parse(alloc, tokens.items())
+    match first_too_deep(tokens.items()) {
+        None => parse(alloc, tokens.items()),
+        Some(token) => Err(ParseFault::Syntax { token }),
+    }
 }
 
 /// The token at which the parser stops.
@@ -45,7 +46,7 @@ fn number(product: &Product) -> Option<(u32, usize)> {
     }
 }
 
-/// 1 + 2 * 3, as a number, a sum's operator, a number and a product's operator, with the numbers' places.
+/// Of a sum's first two products: a number, the operator, a number, and the operator behind that.
 fn shape(tree: &Tree) -> Option<((u32, usize), AddOperator, (u32, usize), MultiplyOperator)> {
     let Some(Statement::Assignment(assignment)) = tree.statements.get(0) else {
         return None;
@@ -63,7 +64,7 @@ fn shape(tree: &Tree) -> Option<((u32, usize), AddOperator, (u32, usize), Multip
 
 #[test]
 fn products_bind_tighter_than_sums(rt: HostRuntime) -> Result<(), Fail> {
-    let tokens = [
+    let tokens: &[TokenKind] = &[
         TokenKind::Fixed(Fixed::Program),
         name(b"P"),
         name(b"X"),
@@ -76,16 +77,11 @@ fn products_bind_tighter_than_sums(rt: HostRuntime) -> Result<(), Fail> {
         TokenKind::Fixed(Fixed::Semicolon),
         TokenKind::Fixed(Fixed::EndProgram),
     ];
-    let found = match parsed(rt.alloc(), &tokens) {
+    let found = match parsed(rt.alloc(), tokens) {
         Ok(tree) => shape(&tree),
         Err(_) => None,
     };
-    let wanted = (
-        (1, 40),
-        AddOperator::Add,
-        (2, 60),
-        MultiplyOperator::Multiply,
-    );
+    let wanted = ((1, 4), AddOperator::Add, (2, 6), MultiplyOperator::Multiply);
     assert_eq!(rt; found, Some(wanted));
     assert_eq!(rt; stops(rt.alloc(), &tokens[..10]), Some(10));
     assert_eq!(rt; stops(rt.alloc(), &tokens[1..]), Some(0));

@@ -4,7 +4,6 @@
 mod fault;
 mod item;
 mod lexer;
-mod nesting;
 mod numeral;
 mod reader;
 mod words;

@@ -5,8 +5,7 @@ ghost use Rattle.st_tree.specs.Programs.{Spells};
 ghost use Rattle.st_reader.specs.Answers.{IsRead, IsTree};
 
 use crate::fault::ReadFault;
-use crate::nesting::first_too_deep;
-use st_parser::{ParseFault, parse};
+use st_parser::{ParseFault, first_too_deep, parse};
 use st_tree::{Tokens, Tree};
 use std::alloc::Global;
 

@@ -1,7 +1,7 @@
 use Rattle.std.proofs.Common.{◌≡◌, ◌+◌, ◌≤◌, drop}
 use Rattle.std.specs.Option.{option_map}
 use Rattle.st_tree.specs.Nesting.{too_deep_from}
-use Rattle.st_reader.proofs.nesting.first_too_deep.Given as goal
+use Rattle.st_parser.proofs.nesting.first_too_deep.Given as goal
 
 abbrev pub invariant-loop-at : goal.invariant-loop-at
 invariant-loop-at l = record {
