@@ -21,6 +21,7 @@ use Rattle.st_tree.specs.declared.declaration.Block.TheVariants as part
 use Rattle.st_tree.specs.Pieces.{Piece, ◌·◌, word, word_at, number_at, name, each, maybe}
 use Rattle.st_tree.specs.Expressions.{truth_word}
 
+-- the symbol of a sign
 abbrev pub sign_word : Sign → Fixed
 sign_word sign.Plus = w.Plus
 sign_word sign.Minus = w.Minus
@@ -40,6 +41,7 @@ simple_word simple.Bool = w.Bool
 simple_word simple.Int = w.Int
 simple_word simple.Dint = w.Dint
 
+-- the reserved word of a function block
 abbrev pub block_word : BlockType → Fixed
 block_word block.RTrig = w.RTrig
 block_word block.FTrig = w.FTrig

@@ -26,25 +26,30 @@ use Rattle.st_tree.specs.declared.expression.Arguments.{Arguments, fold-Argument
 use Rattle.st_tree.specs.declared.expression.Primary.TheOpen.{Primary-F, Unary-F, Arguments-F, Comparison-F, Conjunction-F, Equality-F, Exclusive-F, Expr-F, Product-F, Sum-F}
 use Rattle.st_tree.specs.Pieces.{Piece, ◌·◌, word, word_at, number_at, name, each}
 
+-- = and <>
 abbrev pub equal_word : EqualOperator → Fixed
 equal_word equal.Equal = w.Equals
 equal_word equal.Unequal = w.Unequal
 
+-- <, >, <= and >=
 abbrev pub compare_word : CompareOperator → Fixed
 compare_word compare.Less = w.Less
 compare_word compare.Greater = w.Greater
 compare_word compare.AtMost = w.AtMost
 compare_word compare.AtLeast = w.AtLeast
 
+-- + and -
 abbrev pub add_word : AddOperator → Fixed
 add_word add.Add = w.Plus
 add_word add.Subtract = w.Minus
 
+-- *, / and MOD
 abbrev pub multiply_word : MultiplyOperator → Fixed
 multiply_word multiply.Multiply = w.Times
 multiply_word multiply.Divide = w.Divide
 multiply_word multiply.Modulo = w.Mod
 
+-- the reserved word of a function
 abbrev pub function_word : Function → Fixed
 function_word function.Abs = w.Abs
 function_word function.Min = w.Min
@@ -54,6 +59,7 @@ function_word function.Sel = w.Sel
 function_word function.IntToDint = w.IntToDint
 function_word function.DintToInt = w.DintToInt
 
+-- TRUE and FALSE
 abbrev pub truth_word : Bool → Fixed
 truth_word true = w.True
 truth_word false = w.False
@@ -114,29 +120,38 @@ arguments a = a.first · each (λ x. word w.Comma · x) a.more
 unfoldable pub spell_expr : Expr → List Piece
 spell_expr = fold-Expr (List Piece) (List Piece) (List Piece) (List Piece) (List Piece) (List Piece) (List Piece) (List Piece) (List Piece) (List Piece) primary unary arguments comparison conjunction equality exclusive expr product sum
 
+-- operands joined by XOR
 unfoldable pub spell_exclusive : Exclusive → List Piece
 spell_exclusive = fold-Exclusive (List Piece) (List Piece) (List Piece) (List Piece) (List Piece) (List Piece) (List Piece) (List Piece) (List Piece) (List Piece) primary unary arguments comparison conjunction equality exclusive expr product sum
 
+-- operands joined by AND
 unfoldable pub spell_conjunction : Conjunction → List Piece
 spell_conjunction = fold-Conjunction (List Piece) (List Piece) (List Piece) (List Piece) (List Piece) (List Piece) (List Piece) (List Piece) (List Piece) (List Piece) primary unary arguments comparison conjunction equality exclusive expr product sum
 
+-- operands joined by = and <>
 unfoldable pub spell_equality : Equality → List Piece
 spell_equality = fold-Equality (List Piece) (List Piece) (List Piece) (List Piece) (List Piece) (List Piece) (List Piece) (List Piece) (List Piece) (List Piece) primary unary arguments comparison conjunction equality exclusive expr product sum
 
+-- operands joined by <, >, <= and >=
 unfoldable pub spell_comparison : Comparison → List Piece
 spell_comparison = fold-Comparison (List Piece) (List Piece) (List Piece) (List Piece) (List Piece) (List Piece) (List Piece) (List Piece) (List Piece) (List Piece) primary unary arguments comparison conjunction equality exclusive expr product sum
 
+-- operands joined by + and -
 unfoldable pub spell_sum : Sum → List Piece
 spell_sum = fold-Sum (List Piece) (List Piece) (List Piece) (List Piece) (List Piece) (List Piece) (List Piece) (List Piece) (List Piece) (List Piece) primary unary arguments comparison conjunction equality exclusive expr product sum
 
+-- operands joined by *, / and MOD
 unfoldable pub spell_product : Product → List Piece
 spell_product = fold-Product (List Piece) (List Piece) (List Piece) (List Piece) (List Piece) (List Piece) (List Piece) (List Piece) (List Piece) (List Piece) primary unary arguments comparison conjunction equality exclusive expr product sum
 
+-- a primary with a sign or NOT, or without
 unfoldable pub spell_unary : Unary → List Piece
 spell_unary = fold-Unary (List Piece) (List Piece) (List Piece) (List Piece) (List Piece) (List Piece) (List Piece) (List Piece) (List Piece) (List Piece) primary unary arguments comparison conjunction equality exclusive expr product sum
 
+-- a primary
 unfoldable pub spell_primary : Primary → List Piece
 spell_primary = fold-Primary (List Piece) (List Piece) (List Piece) (List Piece) (List Piece) (List Piece) (List Piece) (List Piece) (List Piece) (List Piece) primary unary arguments comparison conjunction equality exclusive expr product sum
 
+-- the arguments of a function
 unfoldable pub spell_arguments : Arguments → List Piece
 spell_arguments = fold-Arguments (List Piece) (List Piece) (List Piece) (List Piece) (List Piece) (List Piece) (List Piece) (List Piece) (List Piece) (List Piece) primary unary arguments comparison conjunction equality exclusive expr product sum

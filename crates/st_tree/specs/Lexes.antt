@@ -44,9 +44,11 @@ abbrev pub word_kind : List ℕ → Option Fixed → TokenKind
 word_kind capitals (Some w) = kind.Fixed w
 word_kind capitals None = kind.Name capitals
 
+-- letters, digits and underscores: at most 32, and letters' case doesn't matter
 abbrev pub word_item : List ℕ → Item
 word_item text = if nat_lt 32 (length text) then Err NameTooLong else Ok (Some (word_kind (map to_ascii_uppercase text) (reserved_word (map to_ascii_uppercase text))), length text)
 
+-- a number of so many bytes, or what is wrong with it
 abbrev pub number_item : ℕ → Result ℕ LexCause → Item
 number_item len (Ok n) = Ok (Some (kind.Number n), len)
 number_item len (Err cause) = Err cause
@@ -57,6 +59,7 @@ symbol_item (Some w) one = Ok (Some (kind.Fixed w), 2)
 symbol_item None (Some w) = Ok (Some (kind.Fixed w), 1)
 symbol_item None None = Err BadByte
 
+-- White space, a comment, a number, a word or a symbol: the first byte decides, and `(*` goes before `(`.
 unfoldable pub item : List ℕ → Item
 item text =
     if is_white (slice_index text 0) then Ok (None, 1)
@@ -69,6 +72,7 @@ item text =
 abbrev pub Lexed : Type 0
 Lexed = Result (List Token) (ℕ × LexCause)
 
+-- a token before others, or none where the item is white space or a comment
 abbrev pub behind : Option TokenKind → ℕ → Lexed → Lexed
 behind None place more = more
 behind (Some kind) place (Ok tokens) = Ok (record { kind = kind; place = place } ∷ tokens)
@@ -85,6 +89,7 @@ lexed_from place left [] = Ok []
 lexed_from place (suc left) (b ∷ bs) = lexed_from (place + 1) left bs
 lexed_from place zero (b ∷ bs) = item_and place (item (b ∷ bs)) (λ len. lexed_from (place + 1) (len - 1) bs)
 
+-- the tokens of a text, from its first byte on
 unfoldable pub lexed : List ℕ → Lexed
 lexed = lexed_from 0 0
 

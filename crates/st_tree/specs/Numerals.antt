@@ -27,6 +27,7 @@ are_digits base behind_digit (b ∷ bs) = if b == 95 then behind_digit && are_di
 abbrev pub with_digit : ℕ → ℕ → ℕ → ℕ
 with_digit base n b = if b == 95 then n else n * base + digit b
 
+-- the number that the digits have in the base
 abbrev pub value : ℕ → List ℕ → ℕ
 value base = fold (with_digit base) 0
 

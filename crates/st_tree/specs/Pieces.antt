@@ -33,12 +33,15 @@ a · b = a ++ b
 abbrev pub word : Fixed → List Piece
 word w = Anywhere (kind.Fixed w) ∷ []
 
+-- a reserved word or a symbol at this byte place
 abbrev pub word_at : Fixed → ℕ → List Piece
 word_at w place = Placed (kind.Fixed w) place ∷ []
 
+-- a number at this byte place
 abbrev pub number_at : ℕ → ℕ → List Piece
 number_at n place = Placed (kind.Number n) place ∷ []
 
+-- a name at its byte place
 abbrev pub name : PlacedName → List Piece
 name n = Placed (kind.Name n.name) n.place ∷ []
 

@@ -61,8 +61,10 @@ element e = spell_label e.first · each (λ l. word w.Comma · spell_label l) e.
 unfoldable pub spell_statement : Statement → List Piece
 spell_statement = fold-Statement (List Piece) (List Piece) (List Piece) statement branch element
 
+-- a condition with the statements behind THEN
 unfoldable pub spell_branch : Branch → List Piece
 spell_branch = fold-Branch (List Piece) (List Piece) (List Piece) statement branch element
 
+-- labels with the statements behind the colon
 unfoldable pub spell_element : Element → List Piece
 spell_element = fold-Element (List Piece) (List Piece) (List Piece) statement branch element

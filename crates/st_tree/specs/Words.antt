@@ -4,6 +4,7 @@ use Rattle.std.specs.Str.{bytes_eq}
 use Rattle.st_tree.specs.declared.token.Fixed.{Fixed}
 use Rattle.st_tree.specs.declared.token.Fixed.TheVariants as w
 
+-- the reserved words in capitals, and their tokens
 unfoldable pub reserved_words : List (List ℕ × Fixed)
 reserved_words =
     (codes "PROGRAM", w.Program) ∷
@@ -54,6 +55,7 @@ reserved_words =
     (codes "INT_TO_DINT", w.IntToDint) ∷
     (codes "DINT_TO_INT", w.DintToInt) ∷ []
 
+-- the token that a table has for a word
 abbrev pub word_among : List (List ℕ × Fixed) → List ℕ → Option Fixed
 word_among [] text = None
 word_among (entry ∷ entries) text = if bytes_eq entry.0 text then Some entry.1 else word_among entries text
