@@ -1,10 +1,11 @@
-ghost use Rattle.std.specs.Prelude.{◌≡◌, ◌≤◌, ◌<◌, ◌+◌, ◌^◌, length, slice_index, true, false, IfOk, IfSome};
+ghost use Rattle.std.specs.Prelude.{◌≡◌, ◌≤◌, ◌<◌, ◌+◌, ◌^◌, length, true, false, IfOk, IfSome};
 ghost use Rattle.std.specs.List.{prefix_len, list_all};
 ghost use Rattle.tri_base.specs.Names.{is_word_byte as is_word, starts_with_digit};
 ghost use Rattle.st_tree.specs.Lexes as spec;
 ghost use Rattle.st_tree.specs.Words.{symbol_of_two as two, symbol_of_one as one};
 ghost use Rattle.st_tree.specs.Numerals.{numeral as numeral_of};
 
+use crate::bytes::byte_at;
 use crate::numeral::numeral;
 use crate::words::{reserved_word, symbol_of_one, symbol_of_two};
 use st_tree::TokenKind;
@@ -12,12 +13,6 @@ use tri_base::{LexCause, Name};
 
 /// What begins a text: a token or, where it is None, white space or a comment; and how many bytes it has.
 pub type Item = Result<(Option<TokenKind>, usize), LexCause>;
-
-fn byte_at(text: &[u8], at: usize) -> u8
-    ensures { result ≡ slice_index text.now at }
-{
-    if at < text.len() { text[at] } else { 0 }
-}
 
 fn is_white(byte: u8) -> bool
     ensures { result ≡ spec.is_white byte }

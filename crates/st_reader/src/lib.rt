@@ -1,6 +1,7 @@
 //! Reads a Structured Text program: bytes to tokens, and tokens to the tree that spells them.
 #![tactic(auto)]
 
+mod bytes;
 mod fault;
 mod item;
 mod lexer;

@@ -1,6 +1,7 @@
-ghost use Rattle.std.specs.Prelude.{◌≡◌, ◌≤◌, ◌+◌, min, length, drop, fold, slice_index, false};
+ghost use Rattle.std.specs.Prelude.{◌≡◌, ◌≤◌, ◌+◌, min, length, drop, fold, false};
 ghost use Rattle.st_tree.specs.Numerals as spec;
 
+use crate::bytes::byte_at;
 use tri_base::LexCause;
 
 const GREATEST: u32 = 2147483648;
@@ -15,12 +16,6 @@ fn digit(byte: u8) -> u8
         b'a'..=b'f' => byte - 87,
         _ => 16,
     }
-}
-
-fn byte_at(text: &[u8], at: usize) -> u8
-    ensures { result ≡ slice_index text.now at }
-{
-    if at < text.len() { text[at] } else { 0 }
 }
 
 fn base(text: &[u8]) -> u8
