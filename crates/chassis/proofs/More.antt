@@ -6,11 +6,12 @@ use Rattle.std.proofs.lemmas.List.{map-append}
 use Rattle.std.proofs.lemmas.List.Elements.{All-push, filter-append}
 use Rattle.std.proofs.lemmas.List.Quantifiers.{all_pairs_push}
 use Rattle.tri_base.specs.declared.point.Point.{Point}
-use Rattle.tri_base.specs.NameFields.{same_name}
+use Rattle.tri_base.specs.Inner.NameFields.{same_name}
 use Rattle.indexmap.specs.IndexSet.{insert_key}
 use Rattle.chassis.specs.declared.table.Chassis.TheInside.{Inside}
-use Rattle.chassis.specs.Points.{is_input_kind, inputs_of, outputs_of, Fits, fits_range, place_of, is_full, first_fault, refusal_of, IsChassis}
-use Rattle.chassis.specs.Kept.{IsKept}
+use Rattle.chassis.specs.Points.{is_input_kind, inputs_of, outputs_of, place_of, is_full, first_fault, refusal_of, IsChassis}
+use Rattle.chassis.specs.Ranges.{Fits, fits_range}
+use Rattle.chassis.specs.Inner.Kept.{IsKept}
 use Rattle.chassis.proofs.Places.{name_of_point, absent, not_there}
 use Rattle.chassis.proofs.Ranges.{fits_is}
 

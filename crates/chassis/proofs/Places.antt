@@ -9,7 +9,7 @@ use Rattle.std.proofs.lemmas.List.Sums.{passes_at_first, fails_before_first}
 use Rattle.std.proofs.lemmas.Option.{slice_get-map, slice_get-get_or}
 use Rattle.std.proofs.lemmas.Slice.Eq.{bytes_eq-Decides}
 use Rattle.tri_base.specs.declared.point.Point.{Point}
-use Rattle.tri_base.specs.NameFields.{same_name, same_name_is, is_same_name}
+use Rattle.tri_base.specs.Inner.NameFields.{same_name, same_name_is, is_same_name}
 use Rattle.chassis.specs.Points.{place_of}
 
 abbrev pub name_of_point : Point → List ℕ

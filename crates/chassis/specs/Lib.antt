@@ -1,2 +1,3 @@
+pub mod Inner
 pub mod Points
-pub mod Kept
+pub mod Ranges

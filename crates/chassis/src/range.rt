@@ -1,5 +1,5 @@
 ghost use Rattle.std.specs.Prelude.{◌≡◌, ◌↔◌, IsTrue};
-ghost use Rattle.chassis.specs.Points.{Fits, fits_range};
+ghost use Rattle.chassis.specs.Ranges.{Fits, fits_range};
 
 use tri_base::{Point, PointKind};
 

@@ -1,6 +1,7 @@
 ghost use Rattle.std.specs.Prelude.{◌≡◌, ◌≢◌, [], ◌∷◌, ◌++◌, map, slice_get, Some, None, OnOk, OnErr, IfOk, IfErr, IfSome, IfNone, IsErrOf};
 ghost use Rattle.std.specs.List.{All};
 ghost use Rattle.chassis.specs.Points.{IsChassis, place_of, refusal_of, is_full};
+ghost use Rattle.chassis.specs.Ranges.{HoldsZero};
 
 use crate::points::{ChassisFault, is_input};
 use crate::range::fits;
@@ -10,7 +11,7 @@ use std::marker::Model;
 use tri_base::{Name, NoMemory, Point, PointKind};
 
 // How many inputs there may be, and how many outputs.
-const POINTS: usize = 256;
+const POINT_LIMIT: usize = 256;
 
 /// The points of a chassis in order of adding, seen as the list of them.
 #[derive(Drop)]
@@ -27,7 +28,7 @@ impl Model for Chassis {
 
     ghost Value = { List Point };
 
-    ghost use Rattle.chassis.specs.Kept.{IsKept};
+    ghost use Rattle.chassis.specs.Inner.Kept.{IsKept};
 
     ghost view = { λ s. s.points.items };
 
@@ -100,6 +101,7 @@ impl Chassis {
     pub fn points(&self) -> &[Point]
         ensures value { result.now ≡ self.now }
         ensures chassis { IsChassis self.now }
+        ensures holds_zero { All HoldsZero self.now }
     {
         self.points.as_slice()
     }
@@ -122,9 +124,9 @@ impl Chassis {
         ensures { result ≡ is_full self.now kind }
     {
         if is_input(kind) {
-            self.inputs >= POINTS
+            self.inputs >= POINT_LIMIT
         } else {
-            self.outputs >= POINTS
+            self.outputs >= POINT_LIMIT
         }
     }
 }

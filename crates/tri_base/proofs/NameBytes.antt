@@ -6,7 +6,7 @@ use Rattle.std.proofs.lemmas.List.{set_at, length-map, length-take-le, take_all,
 use Rattle.std.proofs.Math.ListN.{set}
 use Rattle.std.proofs.Math.Seq.{take-append_seam}
 use Rattle.tri_base.specs.Names.{is_word_byte, is_name, name_of, starts_with_digit}
-use Rattle.tri_base.specs.NameFields.{padded, IsKept}
+use Rattle.tri_base.specs.Inner.NameFields.{padded, IsKept}
 
 -- the first bytes of the text, as capitals, and zeros behind them
 abbrev pub front : List ℕ → ℕ → List ℕ

@@ -6,7 +6,7 @@ use Rattle.std.proofs.lemmas.List.{get_or_append_left, get_or_push, length_push,
 use Rattle.std.specs.List.{All, AllPairs}
 use Rattle.std.proofs.Math.ListN.{set}
 use Rattle.tri_base.specs.Noted.{number_before, noted}
-use Rattle.tri_base.specs.TouchedFields.{address_at, unknowing, Tied}
+use Rattle.tri_base.specs.Inner.TouchedFields.{address_at, unknowing, Tied}
 
 abbrev pub Pair : Type 0
 Pair = ℕ × ℤ

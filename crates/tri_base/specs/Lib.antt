@@ -1,8 +1,9 @@
+pub mod Bytes
+pub mod Downloads
+pub mod Inner
 pub mod Legs
-pub mod Rows
 pub mod Lent
 pub mod Names
-pub mod NameFields
-pub mod Numbers
 pub mod Noted
-pub mod TouchedFields
+pub mod Numbers
+pub mod Rows

@@ -1,5 +1,5 @@
 ghost use Rattle.std.specs.Prelude.{◌≡◌};
-ghost use Rattle.tri_base.specs.Legs.{left_of, right_of, leg_part};
+ghost use Rattle.tri_base.specs.Legs.{left_of, right_of, leg_part, neighbour, opposite, placed};
 
 /// One of the three main processors.
 #[derive(Clone, Copy, Debug, PartialEq, Eq)]
@@ -48,9 +48,54 @@ impl Leg {
             Leg::C => Leg::A,
         }
     }
+
+    /// The neighbour on a side.
+    pub fn neighbour(self, side: Side) -> Leg
+        ensures { result ≡ neighbour self side }
+    {
+        match side {
+            Side::Left => self.left(),
+            Side::Right => self.right(),
+        }
+    }
+}
+
+impl Side {
+    /// The side on which a neighbour puts what a leg takes from this side.
+    pub fn opposite(self) -> Side
+        ensures { result ≡ opposite self }
+    {
+        match self {
+            Side::Left => Side::Right,
+            Side::Right => Side::Left,
+        }
+    }
 }
 
 impl<T> Triple<T> {
+    /// What a leg has of its own, of its left and of its right neighbour, each in its leg's place.
+    pub fn placed(leg: Leg, own: T, left: T, right: T) -> Triple<T>
+        ensures { result ≡ placed leg own left right }
+    {
+        match leg {
+            Leg::A => Triple {
+                a: own,
+                b: right,
+                c: left,
+            },
+            Leg::B => Triple {
+                a: left,
+                b: own,
+                c: right,
+            },
+            Leg::C => Triple {
+                a: right,
+                b: left,
+                c: own,
+            },
+        }
+    }
+
     /// The value of a leg.
     pub fn at(&self, leg: Leg) -> &T
         ensures { result.now ≡ leg_part self.now leg }

@@ -5,7 +5,7 @@ ghost use Rattle.std.specs.List.{list_all};
 use std::marker::Model;
 
 /// A name: 1 to 32 capitals, digits and underscores, the first of which is no digit.
-#[derive(Clone, Copy, Debug, PartialEq, Eq, PartialOrd, Ord, Hash)]
+#[derive(Clone, Copy, Debug, PartialEq, Eq, Hash)]
 pub struct Name {
     len: usize,
     bytes: [u8; 32],
@@ -19,7 +19,7 @@ impl Model for Name {
 
     ghost coded = { coded_list coded_ℕ };
 
-    ghost use Rattle.tri_base.specs.NameFields.{IsKept, padded, fields_back};
+    ghost use Rattle.tri_base.specs.Inner.NameFields.{IsKept, padded, fields_back};
 
     ghost view = { λ n. take n.len n.bytes };
 

@@ -3,6 +3,7 @@ ghost use Rattle.std.specs.List.{list_all};
 ghost use Rattle.std.specs.Char.{is_ascii_digit};
 ghost use Rattle.std.specs.Str.Parse.{digits_value};
 ghost use Rattle.std.specs.Fmt.{signed_decimal};
+ghost use Rattle.tri_base.specs.Rows.{KeepsRoom};
 ghost use Rattle.tri_base.specs.Numbers.{number_of, size_of, is_short_numeral};
 
 use crate::memory::NoMemory;
@@ -22,7 +23,7 @@ pub fn read_number(text: &[u8]) -> Option<i64>
 /// Adds the shortest decimal text of a number, all of it or nothing.
 pub fn push_number(text: &mut Text, value: i64) -> Result<(), NoMemory>
     ensures list { OnOk result (text.new.list ≡ text.old.list ++ signed_decimal value) }
-    ensures room { text.old.spare ≤ text.new.spare + length (signed_decimal value) }
+    ensures room { KeepsRoom text.old text.new }
     ensures room_serves { length (signed_decimal value) ≤ text.old.spare → IsOk result }
     ensures refused { OnErr result (text.new ≡ text.old) }
 {

@@ -1,5 +1,5 @@
 use crate::{
-    Leg, Name, Text, Touched, Triple, Words, push_bytes, push_number, push_word, read_number,
+    Leg, Name, Side, Text, Touched, Triple, Words, push_bytes, push_number, push_word, read_number,
 };
 use std::test::Fail;
 
@@ -18,7 +18,13 @@ fn legs_stand_in_a_ring(rt: HostRuntime) {
         assert_eq!(rt; leg.left(), left);
         assert_eq!(rt; *names.at(leg), name);
         assert_eq!(rt; leg.right(), right);
+        assert_eq!(rt; leg.neighbour(Side::Left), left);
+        assert_eq!(rt; leg.neighbour(Side::Right), right);
+        let parts = Triple::placed(leg, leg, left, right);
+        assert_eq!(rt; (parts.a, parts.b, parts.c), (Leg::A, Leg::B, Leg::C));
     }
+    assert_eq!(rt; Side::Left.opposite(), Side::Right);
+    assert_eq!(rt; Side::Right.opposite(), Side::Left);
 }
 
 #[test]
@@ -104,16 +110,16 @@ fn a_text_is_copied_and_cleared(rt: HostRuntime) -> Result<(), Fail> {
 #[test]
 fn words_are_added_set_copied_and_cleared(rt: HostRuntime) -> Result<(), Fail> {
     let mut words = Words::new(rt.alloc());
-    words.reserve(2)?;
+    words.reserve(4)?;
     words.add(3);
-    words.add(-4);
+    words.extend(&[-4, 6]);
     push_word(&mut words, 5)?;
     words.set(1, 9);
-    words.items_mut()[2] = i64::MIN;
+    words.items_mut()[3] = i64::MIN;
     let copy = words.copy(rt.alloc())?;
     words.clear();
     assert_eq!(rt; words.len(), 0);
-    assert_eq!(rt; copy.items(), [3, 9, i64::MIN].as_slice());
+    assert_eq!(rt; copy.items(), [3, 9, 6, i64::MIN].as_slice());
     Ok(())
 }
 

@@ -1,4 +1,5 @@
 ghost use Rattle.std.specs.Prelude.{◌≡◌, ◌≤◌, ◌+◌, [], ◌++◌, length, IsOk, OnOk, OnErr, IfOk};
+ghost use Rattle.tri_base.specs.Rows.{KeepsRoom};
 
 use crate::memory::NoMemory;
 use std::alloc::Global;
@@ -80,7 +81,7 @@ impl Text {
 /// Adds bytes at the end, all or none, and takes memory for them where no room is kept.
 pub fn push_bytes(text: &mut Text, bytes: &[u8]) -> Result<(), NoMemory>
     ensures list { OnOk result (text.new.list ≡ text.old.list ++ bytes.now) }
-    ensures room { text.old.spare ≤ text.new.spare + length bytes.now }
+    ensures room { KeepsRoom text.old text.new }
     ensures room_serves { length bytes.now ≤ text.old.spare → IsOk result }
     ensures refused { OnErr result (text.new ≡ text.old) }
 {

@@ -21,7 +21,7 @@ impl Model for Touched {
 
     ghost Value = { TouchedValue };
 
-    ghost use Rattle.tri_base.specs.TouchedFields.{IsTied};
+    ghost use Rattle.tri_base.specs.Inner.TouchedFields.{IsTied};
 
     ghost view = { λ t. record { pairs = t.pairs.items; size = length t.places.items } };
 

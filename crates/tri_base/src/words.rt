@@ -1,4 +1,5 @@
 ghost use Rattle.std.specs.Prelude.{◌≡◌, ◌<◌, ◌≤◌, ◌+◌, [], ◌∷◌, ◌++◌, length, slice_set, IsOk, OnOk, OnErr, IfOk};
+ghost use Rattle.tri_base.specs.Rows.{KeepsRoom};
 
 use crate::memory::NoMemory;
 use std::alloc::Global;
@@ -89,6 +90,16 @@ impl Words {
         self.room -= 1;
     }
 
+    /// Adds words at the end, in the room that is kept.
+    pub fn extend(&mut self, items: &[i64])
+        requires { length items.now ≤ self.old.spare }
+        ensures list { self.new.list ≡ self.old.list ++ items.now }
+        ensures room { self.new.spare + length items.now ≡ self.old.spare }
+    {
+        self.items.extend_from_slice(items).unwrap();
+        self.room -= items.len();
+    }
+
     /// Takes all words out. Their room is kept.
     pub fn clear(&mut self)
         ensures list { self.new.list ≡ [] }
@@ -110,7 +121,7 @@ impl Words {
 /// Adds a word at the end, and takes memory for it where no room is kept.
 pub fn push_word(words: &mut Words, value: i64) -> Result<(), NoMemory>
     ensures list { OnOk result (words.new.list ≡ words.old.list ++ value ∷ []) }
-    ensures room { words.old.spare ≤ words.new.spare + 1 }
+    ensures room { KeepsRoom words.old words.new }
     ensures room_serves { 0 < words.old.spare → IsOk result }
     ensures refused { OnErr result (words.new ≡ words.old) }
 {

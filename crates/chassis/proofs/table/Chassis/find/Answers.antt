@@ -1,6 +1,6 @@
 use Rattle.std.proofs.Common.{List, ◌∙◌, ap}
 use Rattle.std.specs.List.{position}
-use Rattle.tri_base.specs.NameFields.{same_name}
+use Rattle.tri_base.specs.Inner.NameFields.{same_name}
 use Rattle.tri_base.specs.declared.point.Point.{Point}
 use Rattle.chassis.specs.Points.{place_of}
 use Rattle.chassis.proofs.Places.{place_same, found_where, absent_where}

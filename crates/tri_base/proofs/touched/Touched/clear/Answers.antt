@@ -1,6 +1,6 @@
 use Rattle.std.proofs.Common.{arith, subst, ap, ◌∙◌, List}
 use Rattle.std.proofs.lemmas.List.{length-set, append-nil, nil_from_length}
-use Rattle.tri_base.specs.TouchedFields.{Tied}
+use Rattle.tri_base.specs.Inner.TouchedFields.{Tied}
 use Rattle.tri_base.proofs.Places.{Pair, less, last_inside}
 use Rattle.tri_base.proofs.touched.Touched.clear.Goals as goal
 

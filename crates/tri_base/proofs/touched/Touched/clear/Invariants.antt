@@ -1,5 +1,5 @@
 use Rattle.std.proofs.Common.{◌≡◌, length}
-use Rattle.tri_base.specs.TouchedFields.{IsTied}
+use Rattle.tri_base.specs.Inner.TouchedFields.{IsTied}
 use Rattle.tri_base.proofs.touched.Touched.clear.Given as goal
 
 abbrev pub invariant-loop-address : goal.invariant-loop-address

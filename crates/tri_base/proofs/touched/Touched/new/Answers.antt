@@ -1,7 +1,7 @@
 use Rattle.std.proofs.Common.{◌≡◌, arith, rules, subst, sym, ap, List, ℕ, [], replicate, vec_capacity, length}
 use Rattle.std.proofs.lemmas.Grind.{common_steps}
 use Rattle.std.proofs.lemmas.List.{length-replicate}
-use Rattle.tri_base.specs.TouchedFields.{Tied}
+use Rattle.tri_base.specs.Inner.TouchedFields.{Tied}
 use Rattle.tri_base.proofs.Places.{Pair, untouched}
 use Rattle.tri_base.proofs.touched.Touched.new.Goals as goal
 

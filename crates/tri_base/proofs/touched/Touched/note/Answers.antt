@@ -3,7 +3,7 @@ use Rattle.std.proofs.lemmas.List.{length-set, length_push}
 use Rattle.std.proofs.lemmas.Int.{to_z-of_z}
 use Rattle.std.proofs.Math.ListN.{set}
 use Rattle.tri_base.specs.Noted.{noted}
-use Rattle.tri_base.specs.TouchedFields.{Tied}
+use Rattle.tri_base.specs.Inner.TouchedFields.{Tied}
 use Rattle.tri_base.proofs.Places.{Pair, read, room, more, knows_none, knows, noted-first, noted-again}
 use Rattle.tri_base.proofs.touched.Touched.note.Goals as goal
 

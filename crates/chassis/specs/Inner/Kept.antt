@@ -1,3 +1,4 @@
+-- Nobody has to believe what stands here: it serves private fields alone.
 -- How a chassis is kept: the points, a table of their names in the same order, and how many are inputs and outputs.
 use Rattle.std.specs.Prelude.{◌≡◌, map, length}
 use Rattle.chassis.specs.Points.{IsChassis, inputs_of, outputs_of}

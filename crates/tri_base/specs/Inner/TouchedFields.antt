@@ -1,3 +1,4 @@
+-- Nobody has to believe what stands here: it serves private fields alone.
 -- How the touched places are kept: the pairs in a row, and for each address one more than the place of its pair, or 0.
 use Rattle.std.specs.Prelude.{◌≡◌, ℕ, ℤ, pos, ◌+◌, ◌<◌, ◌≤◌, zero, suc, List, [], ◌∷◌, length, slice_index, slice_index_or, vec_capacity}
 use Rattle.tri_base.specs.declared.touched.Touched.TheInside.{Inside}

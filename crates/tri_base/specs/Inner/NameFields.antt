@@ -1,3 +1,4 @@
+-- Nobody has to believe what stands here: it serves private fields alone.
 -- How a name is kept: 32 bytes, the name's and then zeros.
 use Rattle.std.specs.Prelude.{◌≡◌, ℕ, ◌-◌, ◌<◌, ◌≤◌, List, ◌++◌, length, take, replicate, Bool, true, false, ◌&&◌, ◌==◌, Some, refl}
 use Rattle.std.specs.Str.{bytes_eq}
