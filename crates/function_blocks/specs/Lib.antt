@@ -1,2 +1,4 @@
 pub mod Values
+pub mod Arithmetic
+pub mod Fields
 pub mod Blocks

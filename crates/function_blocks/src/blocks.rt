@@ -1,5 +1,6 @@
 ghost use Rattle.std.specs.Prelude.{◌≡◌, ◌≤ℤ◌, pos, length};
-ghost use Rattle.function_blocks.specs.Blocks.{field_count, after_call};
+ghost use Rattle.function_blocks.specs.Fields.{field_count};
+ghost use Rattle.function_blocks.specs.Blocks.{step_block};
 
 use crate::counters::{count_down, count_up};
 use crate::latches::{falling_edge, reset_first, rising_edge, set_first};
@@ -28,26 +29,15 @@ pub enum BlockKind {
     Tp,
 }
 
-impl BlockKind {
-    /// How many fields a block of this kind has.
-    pub fn fields(self) -> usize
-        ensures { result ≡ field_count self }
-    {
-        match self {
-            BlockKind::RTrig | BlockKind::FTrig | BlockKind::Sr | BlockKind::Rs => 3,
-            BlockKind::Ctu | BlockKind::Ctd => 6,
-            BlockKind::Ton | BlockKind::Tof | BlockKind::Tp => 5,
-        }
-    }
-}
-
-/// One call of a block on its fields, `dt` milliseconds after the last one. A field outside its
-/// type, as a fault may leave it, counts as the nearest value of its type.
+/// One call of a block on its words. `dt` is the scan time of this call in milliseconds; each call
+/// counts it once, however long ago the last call was. A word outside its field's type, as a fault may
+/// leave it, counts as the nearest value of the type, for BOOL as TRUE where it isn't 0; the call writes
+/// all words.
 pub fn step_block(kind: BlockKind, fields: &mut [i64], dt: i64)
     requires fields { length fields.old ≡ field_count kind }
     requires from { pos 0 ≤ℤ dt }
     requires to { dt ≤ℤ pos 10_000 }
-    ensures { fields.new ≡ after_call kind dt fields.old }
+    ensures { fields.new ≡ step_block kind dt fields.old }
 {
     match kind {
         BlockKind::RTrig => rising_edge(fields),

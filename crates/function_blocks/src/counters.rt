@@ -1,15 +1,17 @@
 // Counters.
 
-ghost use Rattle.std.specs.Prelude.{◌≡◌, length};
-ghost use Rattle.function_blocks.specs.Blocks.{counted_up, counted_down, counter, ctu, ctd};
-ghost use Rattle.function_blocks.specs.Values.{IsOperand};
+ghost use Rattle.std.specs.Prelude.{◌≡◌, [], ◌∷◌, length, map};
+ghost use Rattle.function_blocks.specs.Fields.{read_fields};
+ghost use Rattle.function_blocks.specs.Blocks.{counted_up, counted_down, ctu, ctd};
+ghost use Rattle.function_blocks.specs.Values.{IsOperand, number, word_of};
 
-use crate::fields::{read_bool, read_int};
+use crate::blocks::BlockKind;
+use crate::reading::{read_bool, read_int};
 
 // Writes the fields of a counter.
 fn write(fields: &mut [i64], input: bool, reset: bool, preset: i64, output: bool, count: i64)
     requires { length fields.old ≡ 6 }
-    ensures { fields.new ≡ counter input reset preset output count }
+    ensures { fields.new ≡ number input ∷ number reset ∷ preset ∷ number output ∷ count ∷ number input ∷ [] }
 {
     let input = i64::from(input);
     let reset = i64::from(reset);
@@ -19,7 +21,7 @@ fn write(fields: &mut [i64], input: bool, reset: bool, preset: i64, output: bool
 /// CTU.
 pub(crate) fn count_up(fields: &mut [i64])
     requires { length fields.old ≡ 6 }
-    ensures { fields.new ≡ ctu fields.old }
+    ensures { fields.new ≡ map word_of (ctu (read_fields BlockKind.Ctu fields.old)) }
 {
     let up = read_bool(fields, 0);
     let reset = read_bool(fields, 1);
@@ -45,7 +47,7 @@ fn next_up(up: bool, reset: bool, count: i64, memory: bool) -> i64
 /// CTD.
 pub(crate) fn count_down(fields: &mut [i64])
     requires { length fields.old ≡ 6 }
-    ensures { fields.new ≡ ctd fields.old }
+    ensures { fields.new ≡ map word_of (ctd (read_fields BlockKind.Ctd fields.old)) }
 {
     let down = read_bool(fields, 0);
     let load = read_bool(fields, 1);

@@ -1,7 +1,7 @@
-ghost use Rattle.std.specs.Prelude.{◌≡◌, ◌≤ℤ◌};
+ghost use Rattle.std.specs.Prelude.{◌≡◌};
 ghost use Rattle.function_blocks.specs.Values.{clamped, is_on, IsOperand};
 
-/// The type of a word.
+/// The type of a word (IEC 61131-3:2013, 6.4.2).
 #[derive(Clone, Copy, Debug, PartialEq, Eq)]
 pub enum Kind {
     /// FALSE and TRUE, as 0 and 1.
@@ -25,7 +25,7 @@ pub fn clamp_to(kind: Kind, value: i64) -> i64
     }
 }
 
-/// Whether a number counts as TRUE.
+/// Whether a number counts as TRUE: where it isn't 0.
 #[inline]
 pub fn is_on(value: i64) -> bool
     ensures { result ≡ is_on value }

@@ -1,4 +1,7 @@
-use crate::{BlockKind, step_block};
+use crate::{
+    BlockKind, Kind, Role, bounded, exact, field_at, field_count, input_named, output_named,
+    quotient, remainder, step_block,
+};
 
 const TON: BlockKind = BlockKind::Ton;
 
@@ -49,7 +52,7 @@ fn timers_at_100_milliseconds_a_call(rt: HostRuntime) {
         let mut fields = [0i64, pt, 0, 0, 0];
         for call in 0..5 {
             fields[0] = inputs[call];
-            assert_eq!(rt; kind.fields(), 5);
+            assert_eq!(rt; field_count(kind), 5);
             step_block(kind, &mut fields, 100);
             assert_eq!(rt;
                 (fields[3], fields[2]),
@@ -85,8 +88,47 @@ fn counters_triggers_and_latches(rt: HostRuntime) {
         (BlockKind::Rs, [1, 1, 1], [1, 1, 0]),
     ] {
         let mut fields = before;
-        assert_eq!(rt; kind.fields(), 3);
+        assert_eq!(rt; field_count(kind), 3);
         step_block(kind, &mut fields, 100);
         assert_eq!(rt; fields.as_slice(), after.as_slice(), "{kind:?}");
+    }
+}
+
+#[test]
+fn fields_by_place_and_by_name(rt: HostRuntime) {
+    for (kind, place, name, role, first) in [
+        (BlockKind::FTrig, 0, b"CLK".as_slice(), Role::Input, 0),
+        (BlockKind::FTrig, 2, b"M", Role::Hidden, 1),
+        (BlockKind::Rs, 1, b"R1", Role::Input, 0),
+        (BlockKind::Ctd, 4, b"CV", Role::Output, 0),
+        (TP, 3, b"ET", Role::Output, 0),
+    ] {
+        match field_at(kind, place) {
+            Some(field) => {
+                assert_eq!(rt; (field.name, field.role, field.first), (name, role, first));
+            }
+            None => assert!(rt; false, "{kind:?} has no field {place}"),
+        }
+        assert!(rt; field_at(kind, field_count(kind)).is_none());
+    }
+    assert_eq!(rt; input_named(TON, b"PT"), Some(Kind::Dint));
+    assert_eq!(rt; input_named(TON, b"ET"), None);
+    assert_eq!(rt; output_named(BlockKind::Ctu, b"CV"), Some(Kind::Int));
+    assert_eq!(rt; output_named(BlockKind::Ctu, b"M"), None);
+}
+
+#[test]
+fn numbers_clamped_with_a_flag(rt: HostRuntime) {
+    for (computed, value, flag) in [
+        (exact(Kind::Int, 32_768), 32_767, true),
+        (exact(Kind::Bool, 7), 1, true),
+        (quotient(Kind::Int, -7, 2), -3, false),
+        (quotient(Kind::Int, -32_768, -1), 32_767, true),
+        (quotient(Kind::Dint, 7, 0), 0, true),
+        (remainder(Kind::Int, -32_768, -1), 0, false),
+        (remainder(Kind::Dint, -7, 2), -1, false),
+        (bounded(-1, 3, 4), 3, true),
+    ] {
+        assert_eq!(rt; (computed.value, computed.flag), (value, flag));
     }
 }

@@ -1,10 +1,11 @@
 // Timers.
 
-ghost use Rattle.std.specs.Prelude.{◌≡◌, ◌≤ℤ◌, pos, length};
-ghost use Rattle.function_blocks.specs.Blocks.{elapsed, preset, timer, delayed_on, delayed_off, pulsed, ton, tof, tp};
-ghost use Rattle.function_blocks.specs.Values.{IsOperand};
+ghost use Rattle.std.specs.Prelude.{◌≡◌, ◌≤ℤ◌, pos, [], ◌∷◌, length};
+ghost use Rattle.function_blocks.specs.Blocks.{elapsed, preset, step_block};
+ghost use Rattle.function_blocks.specs.Values.{IsOperand, number};
 
-use crate::fields::{read_bool, read_dint};
+use crate::blocks::BlockKind;
+use crate::reading::{read_bool, read_dint};
 
 // The preset time, or 0 where it is negative.
 fn time_of(pt: i64) -> i64
@@ -28,7 +29,7 @@ fn run_on(dt: i64, pt: i64, et: i64) -> i64
 // Writes the fields of a timer.
 fn write(fields: &mut [i64], input: bool, pt: i64, q: bool, et: i64)
     requires { length fields.old ≡ 5 }
-    ensures { fields.new ≡ timer input pt (record { q = q; et = et }) }
+    ensures { fields.new ≡ number input ∷ pt ∷ number q ∷ et ∷ number input ∷ [] }
 {
     let input = i64::from(input);
     fields.copy_from_slice(&[input, pt, i64::from(q), et, input]);
@@ -39,7 +40,7 @@ pub(crate) fn on_delay(fields: &mut [i64], dt: i64)
     requires fields { length fields.old ≡ 5 }
     requires from { pos 0 ≤ℤ dt }
     requires to { dt ≤ℤ pos 10_000 }
-    ensures { fields.new ≡ ton dt fields.old }
+    ensures { fields.new ≡ step_block BlockKind.Ton dt fields.old }
 {
     let pt = read_dint(fields, 1);
     if !read_bool(fields, 0) {
@@ -57,7 +58,7 @@ pub(crate) fn off_delay(fields: &mut [i64], dt: i64)
     requires fields { length fields.old ≡ 5 }
     requires from { pos 0 ≤ℤ dt }
     requires to { dt ≤ℤ pos 10_000 }
-    ensures { fields.new ≡ tof dt fields.old }
+    ensures { fields.new ≡ step_block BlockKind.Tof dt fields.old }
 {
     let pt = read_dint(fields, 1);
     let et = read_dint(fields, 3);
@@ -78,7 +79,7 @@ pub(crate) fn pulse(fields: &mut [i64], dt: i64)
     requires fields { length fields.old ≡ 5 }
     requires from { pos 0 ≤ℤ dt }
     requires to { dt ≤ℤ pos 10_000 }
-    ensures { fields.new ≡ tp dt fields.old }
+    ensures { fields.new ≡ step_block BlockKind.Tp dt fields.old }
 {
     let input = read_bool(fields, 0);
     let pt = read_dint(fields, 1);

@@ -3,29 +3,30 @@ use Rattle.std.proofs.Common.{◌≡◌, ℕ, ◌+◌, ◌-◌, ◌<◌, ℤ, Li
 use borrow.Rule.Slice.PartMut.{post_of}
 use Rattle.function_blocks.specs.declared.blocks.BlockKind.{BlockKind}
 use Rattle.function_blocks.specs.declared.blocks.BlockKind.TheVariants as block
-use Rattle.function_blocks.specs.Blocks.{field_count, after_call}
+use Rattle.function_blocks.specs.Fields.{field_count}
+use Rattle.function_blocks.specs.Blocks.{step_block}
 use Rattle.scan_machine.specs.Machine.{words_at, with_words}
 
-pub length-after_call : (kind : BlockKind) (dt : ℤ) (fields : List ℤ) → length (after_call kind dt fields) ≡ field_count kind
-length-after_call block.RTrig dt fields = refl
-length-after_call block.FTrig dt fields = refl
-length-after_call block.Sr dt fields = refl
-length-after_call block.Rs dt fields = refl
-length-after_call block.Ctu dt fields = refl
-length-after_call block.Ctd dt fields = refl
-length-after_call block.Ton dt fields = refl
-length-after_call block.Tof dt fields = refl
-length-after_call block.Tp dt fields = refl
+pub length-step_block : (kind : BlockKind) (dt : ℤ) (fields : List ℤ) → length (step_block kind dt fields) ≡ field_count kind
+length-step_block block.RTrig dt fields = refl
+length-step_block block.FTrig dt fields = refl
+length-step_block block.Sr dt fields = refl
+length-step_block block.Rs dt fields = refl
+length-step_block block.Ctu dt fields = refl
+length-step_block block.Ctd dt fields = refl
+length-step_block block.Ton dt fields = refl
+length-step_block block.Tof dt fields = refl
+length-step_block block.Tp dt fields = refl
 
 pub called_words : (kind : BlockKind) (dt dt' : ℤ) (address n : ℕ) (words new : List ℤ) → n ≡ field_count kind → dt' ≡ dt
-    → new ≡ after_call kind dt' (take (address + n - address) (drop address words))
-    → take address words ++ (new ++ post_of address (address + n - address) words) ≡ with_words words address (after_call kind dt (words_at words address (field_count kind)))
+    → new ≡ step_block kind dt' (take (address + n - address) (drop address words))
+    → take address words ++ (new ++ post_of address (address + n - address) words) ≡ with_words words address (step_block kind dt (words_at words address (field_count kind)))
 called_words kind dt dt' address n words new count same is =
     let size : address + n - address ≡ field_count kind = omega arith in
-    let f = after_call kind dt (words_at words address (field_count kind)) in
-    let e : new ≡ f = is ∙ (ap (λ t. after_call kind t (take (address + n - address) (drop address words))) same ∙ ap (λ k. after_call kind dt (take k (drop address words))) size) in
+    let f = step_block kind dt (words_at words address (field_count kind)) in
+    let e : new ≡ f = is ∙ (ap (λ t. step_block kind t (take (address + n - address) (drop address words))) same ∙ ap (λ k. step_block kind dt (take k (drop address words))) size) in
     ap (λ l. take address words ++ (l ++ post_of address (address + n - address) words)) e
-    ∙ ap (λ k. take address words ++ (f ++ drop k (drop address words))) (size ∙ sym (length-after_call kind dt (words_at words address (field_count kind))))
+    ∙ ap (λ k. take address words ++ (f ++ drop k (drop address words))) (size ∙ sym (length-step_block kind dt (words_at words address (field_count kind))))
 
 -- a block has a field
 pub fields_some : (kind : BlockKind) → 0 < field_count kind

@@ -2,10 +2,10 @@
 use Rattle.std.proofs.Common.{◌≡◌, ℤ, Bool, List, ◌∷◌, Option, Some, to_z, of_z, w64, arith, sym, ap, refl, ◌∙◌}
 use Rattle.std.proofs.lemmas.Int.{ints}
 use Rattle.function_blocks.specs.declared.kinds.Kind.{Kind}
-use Rattle.scan_machine.specs.declared.numbers.Computed.{Computed}
+use Rattle.function_blocks.specs.declared.arithmetic.Computed.{Computed}
 use Rattle.scan_machine.specs.declared.instructions.Instr.{Instr}
 use Rattle.function_blocks.specs.Values.{IsOperand}
-use Rattle.scan_machine.specs.Numbers.{exact}
+use Rattle.function_blocks.specs.Arithmetic.{exact}
 use Rattle.scan_machine.specs.Machine.{Left, operate, on_top}
 
 pub exact_on_top : (kind : Kind) (z z' : ℤ) (r : Computed) (below : List ℤ) → r ≡ exact kind z' → z' ≡ z → on_top (exact kind z) below ≡ on_top r below

@@ -13,11 +13,13 @@ use Rattle.function_blocks.specs.declared.blocks.BlockKind.{BlockKind}
 use Rattle.scan_machine.specs.declared.instructions.Instr.{Instr}
 use Rattle.scan_machine.specs.declared.instructions.Instr.TheVariants as i
 use Rattle.function_blocks.specs.Values.{is_on, clamped}
-use Rattle.function_blocks.specs.Blocks.{field_count, after_call}
-use Rattle.scan_machine.specs.Numbers.{bounded, element, is_past}
+use Rattle.function_blocks.specs.Fields.{field_count}
+use Rattle.function_blocks.specs.Blocks.{step_block}
+use Rattle.function_blocks.specs.Arithmetic.{bounded}
+use Rattle.scan_machine.specs.Numbers.{element, is_past}
 use Rattle.scan_machine.specs.Rules.{Lies, array_reach, HasWords, HasConstants}
 use Rattle.scan_machine.specs.Machine.{State, Left, onward, store, operated, operate, load_at, stored, stored_at, chosen, called, read, with_words, words_at, does}
-use Rattle.scan_machine.proofs.Calling.{length-after_call, fields_some}
+use Rattle.scan_machine.proofs.Calling.{length-step_block, fields_some}
 use Rattle.scan_machine.proofs.Reaches.{reach_there}
 use Rattle.scan_machine.proofs.Turns.{Unchanged}
 
@@ -122,8 +124,8 @@ module _ (s s' : State) (address : ℕ) (kind : Kind) (step last : ℤ) (back : 
 went_called : (s s' : State) (kind : BlockKind) (address : ℕ) (dt : ℤ) → HasWords (length s.words) (i.Call kind address) → Some (called s kind address dt) ≡ Some s'
     → Went (i.Call kind address) s s'
 went_called s s' kind address dt there e =
-    let new = after_call kind dt (words_at s.words address (field_count kind)) in
-    let size = length-after_call kind dt (words_at s.words address (field_count kind)) in
+    let new = step_block kind dt (words_at s.words address (field_count kind)) in
+    let size = length-step_block kind dt (words_at s.words address (field_count kind)) in
     let some = fields_some kind in
     let within = reach_there (length s.words) address (field_count kind - 1) (i.Call kind address) refl there in
     let aside : (word : ℕ) → (Lies word (Some (address, field_count kind - 1)) → ⊥) → (word < address) ⊎ (address + length new ≤ word) =

@@ -11,12 +11,14 @@ use Rattle.scan_machine.specs.declared.instructions.Instr.{Instr}
 use Rattle.scan_machine.specs.declared.instructions.Instr.TheVariants as i
 use Rattle.scan_machine.specs.declared.verified.CodeRule.TheVariants as rule
 use Rattle.function_blocks.specs.Values.{is_on, clamped}
-use Rattle.scan_machine.specs.Numbers.{bounded, element, is_past}
-use Rattle.function_blocks.specs.Blocks.{field_count, after_call}
+use Rattle.function_blocks.specs.Arithmetic.{bounded}
+use Rattle.scan_machine.specs.Numbers.{element, is_past}
+use Rattle.function_blocks.specs.Fields.{field_count}
+use Rattle.function_blocks.specs.Blocks.{step_block}
 use Rattle.scan_machine.specs.Rules.{HasWords, IsVerified}
 use Rattle.scan_machine.specs.Machine.{State, Left, onward, store, operated, operate, load_at, stored, stored_at, chosen, called, read, with_words, words_at, noted_all, does, next, after, at_start, at_end}
 use Rattle.scan_machine.specs.Laws.{NotesStores, HasNotedStores}
-use Rattle.scan_machine.proofs.Calling.{length-after_call, fields_some}
+use Rattle.scan_machine.proofs.Calling.{length-step_block, fields_some}
 use Rattle.scan_machine.proofs.Reaches.{reach_there}
 use Rattle.scan_machine.proofs.Moves.{set_other, words_other}
 
@@ -232,8 +234,8 @@ step_turned s s' a sum back false e =
 
 step_called : (s s' : State) (kind : BlockKind) (a : ℕ) (dt : ℤ) → HasWords (length s.words) (i.Call kind a) → Some (called s kind a dt) ≡ Some s' → Stepped s s'
 step_called s s' kind a dt there e =
-    let new = after_call kind dt (words_at s.words a (field_count kind)) in
-    let size = length-after_call kind dt (words_at s.words a (field_count kind)) in
+    let new = step_block kind dt (words_at s.words a (field_count kind)) in
+    let size = length-step_block kind dt (words_at s.words a (field_count kind)) in
     let some = fields_some kind in
     let within = reach_there (length s.words) a (field_count kind - 1) (i.Call kind a) refl there in
     stepped s (called s kind a dt) s' e

@@ -3,10 +3,11 @@ use Rattle.std.proofs.Common.{◌≡◌, ℕ, ◌+◌, ℤ, pos, ◌+ℤ◌, Boo
 use Rattle.std.specs.Prelude.{slice_index_or, slice_set}
 use Rattle.tri_base.specs.Noted.{noted}
 use Rattle.function_blocks.specs.declared.kinds.Kind.{Kind}
-use Rattle.scan_machine.specs.declared.numbers.Computed.{Computed}
+use Rattle.function_blocks.specs.declared.arithmetic.Computed.{Computed}
 use Rattle.scan_machine.specs.declared.instructions.Instr.TheVariants as i
 use Rattle.function_blocks.specs.Values.{clamped}
-use Rattle.scan_machine.specs.Numbers.{bounded, element, is_past}
+use Rattle.function_blocks.specs.Arithmetic.{bounded}
+use Rattle.scan_machine.specs.Numbers.{element, is_past}
 use Rattle.scan_machine.specs.Machine.{State, onward, store, read, does, stored_at}
 use Rattle.scan_machine.specs.Checks.{StoresAt}
 

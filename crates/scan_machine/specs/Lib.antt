@@ -1,4 +1,6 @@
 pub use Rattle.function_blocks.specs.Values
+pub use Rattle.function_blocks.specs.Arithmetic
+pub use Rattle.function_blocks.specs.Fields
 pub use Rattle.function_blocks.specs.Blocks
 pub mod Rules
 pub mod Checks

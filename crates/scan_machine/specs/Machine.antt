@@ -7,12 +7,14 @@ use Rattle.std.specs.Ordering.{int_eq}
 use Rattle.tri_base.specs.Noted.{noted}
 use Rattle.function_blocks.specs.declared.kinds.Kind.{Kind}
 use Rattle.function_blocks.specs.declared.blocks.BlockKind.{BlockKind}
-use Rattle.scan_machine.specs.declared.numbers.Computed.{Computed}
+use Rattle.function_blocks.specs.declared.arithmetic.Computed.{Computed}
 use Rattle.scan_machine.specs.declared.instructions.Instr.{Instr}
 use Rattle.scan_machine.specs.declared.instructions.Instr.TheVariants as i
 use Rattle.function_blocks.specs.Values.{is_on, number, clamped}
-use Rattle.function_blocks.specs.Blocks.{field_count, after_call}
-use Rattle.scan_machine.specs.Numbers.{exact, quotient, remainder, bounded, element, is_past}
+use Rattle.function_blocks.specs.Fields.{field_count}
+use Rattle.function_blocks.specs.Blocks.{step_block}
+use Rattle.function_blocks.specs.Arithmetic.{exact, quotient, remainder, bounded}
+use Rattle.scan_machine.specs.Numbers.{element, is_past}
 
 -- ---- operands
 
@@ -140,7 +142,7 @@ abbrev pub called : State → BlockKind → ℕ → ℤ → State
 called s kind address dt =
     let fields = words_at s.words address (field_count kind) in
     record (onward s s.stack) {
-      words = with_words s.words address (after_call kind dt fields);
+      words = with_words s.words address (step_block kind dt fields);
       stores = noted_all address fields s.stores;
     }
 

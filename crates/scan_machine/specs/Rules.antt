@@ -8,7 +8,7 @@ use Rattle.scan_machine.specs.declared.verified.CodeRule.{CodeRule}
 use Rattle.scan_machine.specs.declared.verified.CodeRule.TheVariants as rule
 use Rattle.scan_machine.specs.declared.verified.BadCode.{BadCode}
 use Rattle.function_blocks.specs.Values.{least, greatest, IsOperand}
-use Rattle.function_blocks.specs.Blocks.{field_count}
+use Rattle.function_blocks.specs.Fields.{field_count}
 
 -- ---- Address
 

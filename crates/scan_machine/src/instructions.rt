@@ -1,7 +1,7 @@
 ghost use Rattle.std.specs.Prelude.{◌≡◌, ◌≤◌};
 ghost use Rattle.scan_machine.specs.Rules.{array_reach, reach, store_reach, takes, gives, named};
 
-use function_blocks::{BlockKind, Kind};
+use function_blocks::{BlockKind, Kind, field_count};
 
 /// One instruction of the scan machine. Operands are pushed in the order of the source: the last
 /// one is on top.
@@ -138,7 +138,7 @@ impl Instr {
                 high,
                 ..
             } => array_reach(address, low, high),
-            Instr::Call(kind, address) => Some((address, kind.fields() - 1)),
+            Instr::Call(kind, address) => Some((address, field_count(kind) - 1)),
             _ => None,
         }
     }

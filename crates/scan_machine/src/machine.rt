@@ -4,16 +4,18 @@ ghost use Rattle.std.specs.Prelude.{ℕ, ◌||◌, ◌≡◌, ◌<◌, ◌≤◌
 ghost use Rattle.tri_base.specs.Noted.{noted};
 ghost use Rattle.function_blocks.specs.Values.{IsOperand};
 ghost use Rattle.scan_machine.specs.Checks.{GoesOn, StoresAt};
-ghost use Rattle.function_blocks.specs.Blocks.{field_count, after_call};
-ghost use Rattle.scan_machine.specs.Numbers.{bounded, element};
+ghost use Rattle.function_blocks.specs.Fields.{field_count};
+ghost use Rattle.function_blocks.specs.Blocks.{step_block};
+ghost use Rattle.function_blocks.specs.Arithmetic.{bounded};
+ghost use Rattle.scan_machine.specs.Numbers.{element};
 ghost use Rattle.scan_machine.specs.Rules.{HasWords, HasConstants, AreBounds, takes, gives};
 ghost use Rattle.scan_machine.specs.Machine.{does, load_at, noted_all, words_at, with_words};
 
 use crate::instructions::Instr;
-use crate::numbers::{bounded, is_past};
+use crate::numbers::is_past;
 use crate::operations::operate;
 use crate::stack::Operands;
-use function_blocks::{BlockKind, Kind, clamp_to, is_on, step_block};
+use function_blocks::{BlockKind, Kind, bounded, clamp_to, field_count, is_on, step_block};
 use tri_base::Touched;
 
 /// Does one instruction, and says which one comes next.
@@ -205,10 +207,10 @@ fn call(kind: BlockKind, address: usize, dt: i64, words: &mut [i64], touched: &m
     requires from { pos 0 ≤ℤ dt }
     requires to { dt ≤ℤ pos 10_000 }
     requires size { length words.old ≤ touched.old.size }
-    ensures words { words.new ≡ with_words words.old address (after_call kind dt (words_at words.old address (field_count kind))) }
+    ensures words { words.new ≡ with_words words.old address (step_block kind dt (words_at words.old address (field_count kind))) }
     ensures touched { touched.new ≡ record touched.old { pairs = noted_all address (words_at words.old address (field_count kind)) touched.old.pairs } }
 {
-    let end = address + kind.fields();
+    let end = address + field_count(kind);
     note_all(&words[address..end], address, touched);
     step_block(kind, &mut words[address..end], dt);
 }

@@ -10,9 +10,8 @@ ghost use Rattle.std.specs.Int.{int_max, int_min};
 ghost use Rattle.std.specs.Int.RustNames.{int_le};
 
 use crate::instructions::Instr;
-use crate::numbers::{Computed, exact, quotient, remainder};
 use crate::stack::Operands;
-use function_blocks::is_on;
+use function_blocks::{Computed, exact, is_on, quotient, remainder};
 
 /// Does an instruction that works on operands alone, and says whether a number was clamped.
 #[inline]

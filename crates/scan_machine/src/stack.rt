@@ -3,7 +3,6 @@
 ghost use Rattle.std.specs.Prelude.{◌≡◌, ◌<◌, ◌≤◌, [], ◌∷◌, length};
 ghost use Rattle.function_blocks.specs.Values.{IsOperand};
 
-use crate::numbers::Computed;
 use arrayvec::ArrayVec;
 use std::marker::Model;
 
@@ -18,13 +17,14 @@ pub(crate) struct Operands {
 
 impl Model for Operands {
     ghost use Rattle.std.specs.Prelude.{ℤ, List, reverse};
-    ghost use Rattle.function_blocks.specs.Values.{AreOperands};
+    ghost use Rattle.std.specs.List.{AllByRecursion};
+    ghost use Rattle.function_blocks.specs.Values.{IsOperand};
 
     ghost Value = { List ℤ };
 
     ghost view = { λ s. reverse s.items.items };
 
-    ghost invariant = { λ s. AreOperands (reverse s.items.items) };
+    ghost invariant = { λ s. AllByRecursion IsOperand (reverse s.items.items) };
 }
 
 impl Operands {

@@ -3,7 +3,7 @@ use Rattle.std.proofs.lemmas.Int.{ints}
 use Rattle.scan_machine.specs.declared.instructions.Instr.{Instr}
 use Rattle.scan_machine.specs.Machine.{operate}
 use Rattle.scan_machine.proofs.Doing.{exact_on_top}
-use Rattle.scan_machine.proofs.Dividing.{product_fits}
+use Rattle.scan_machine.proofs.Products.{product_fits}
 use Rattle.scan_machine.proofs.operations.arithmetic.Goals as goal
 
 pub returns-in-Add-clause-value : goal.returns-in-Add-clause-value

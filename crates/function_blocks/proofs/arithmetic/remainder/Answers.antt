@@ -1,5 +1,5 @@
-use Rattle.scan_machine.proofs.Dividing.{remainder_is}
-use Rattle.scan_machine.proofs.numbers.remainder.Goals as goal
+use Rattle.function_blocks.proofs.Dividing.{remainder_is}
+use Rattle.function_blocks.proofs.arithmetic.remainder.Goals as goal
 
 pub returns-else-divisor-eq0-clause-value : goal.returns-else-divisor-eq0-clause-value
 returns-else-divisor-eq0-clause-value c =

@@ -3,11 +3,11 @@ use Rattle.std.proofs.Common.{◌≡◌, ℕ, zero, suc, ◌≤◌, ◌/◌, if�
 use Rattle.std.proofs.Math.Nat.{div-le_self}
 use Rattle.std.specs.Prelude.{unsigned_abs, neg_ℤ}
 use Rattle.std.specs.Int.RustNames.{int_div, int_rem}
-use Rattle.std.proofs.lemmas.Int.{quot_is, rem_is, quot-rem, fits_signed_from_abs, fits_signed_mul, to_z-of_z, ints}
+use Rattle.std.proofs.lemmas.Int.{quot_is, rem_is, quot-rem, fits_signed_from_abs, ints}
 use Rattle.function_blocks.specs.declared.kinds.Kind.{Kind}
-use Rattle.scan_machine.specs.declared.numbers.Computed.{Computed}
+use Rattle.function_blocks.specs.declared.arithmetic.Computed.{Computed}
 use Rattle.function_blocks.specs.Values.{IsOperand, is_on}
-use Rattle.scan_machine.specs.Numbers.{exact, quotient, remainder}
+use Rattle.function_blocks.specs.Arithmetic.{exact, quotient, remainder}
 
 abs-neg : (n : ℕ) → unsigned_abs (neg_ℤ (pos n)) ≡ n
 abs-neg zero = refl
@@ -19,7 +19,8 @@ abs-quot (pos a) (negsuc b) = subst (λ n. n ≤ a) (sym (abs-neg (a / suc b))) 
 abs-quot (negsuc a) (pos b) = subst (λ n. n ≤ suc a) (sym (abs-neg (suc a / b))) (div-le_self (suc a) b)
 abs-quot (negsuc a) (negsuc b) = div-le_self (suc a) (suc b)
 
-abs-operand : (x : ℤ) → IsOperand x → unsigned_abs x ≤ 2147483648
+-- an operand is at most 2^31 away from 0
+pub abs-operand : (x : ℤ) → IsOperand x → unsigned_abs x ≤ 2147483648
 abs-operand (pos a) h = omega (arith, ints)
 abs-operand (negsuc a) h = omega (arith, ints)
 
@@ -48,11 +49,3 @@ module _ (kind : Kind) (x y : ℤ) (p : IsOperand x) (q : IsOperand y) (on : of_
       let left : int_rem x y ≡ x -ℤ int_div x y *ℤ y = omega (arith, ints, quot-rem x y) in
       e ∙ (ap (exact kind) (rem_is w64 x y fits_x fits_y ∙ left)
       ∙ ap (λ (b : Bool). if b then exact kind (x -ℤ int_div x y *ℤ y) else record { value = pos 0; flag = true }) (sym (is_on-not_zero y on)))
-
--- the product of two operands, as the code has it
-pub product_fits : (x y : ℤ) → IsOperand x → IsOperand y → to_z w64 (of_z w64 (to_z w64 (of_z w64 x) *ℤ to_z w64 (of_z w64 y))) ≡ x *ℤ y
-product_fits x y p q =
-    let e : to_z w64 (of_z w64 x) ≡ x = omega (arith, ints) in
-    let f : to_z w64 (of_z w64 y) ≡ y = omega (arith, ints) in
-    let fits : FitsSigned w64 (x *ℤ y) = fits_signed_mul w64 x y 2147483648 2147483648 (abs-operand x p) (abs-operand y q) (omega arith) in
-    ap (λ z. to_z w64 (of_z w64 (z *ℤ to_z w64 (of_z w64 y)))) e ∙ (ap (λ z. to_z w64 (of_z w64 (x *ℤ z))) f ∙ to_z-of_z w64 (x *ℤ y) fits)

@@ -1,5 +1,5 @@
-use Rattle.scan_machine.proofs.Dividing.{quotient_is}
-use Rattle.scan_machine.proofs.numbers.quotient.Goals as goal
+use Rattle.function_blocks.proofs.Dividing.{quotient_is}
+use Rattle.function_blocks.proofs.arithmetic.quotient.Goals as goal
 
 pub returns-else-divisor-eq0-clause-value : goal.returns-else-divisor-eq0-clause-value
 returns-else-divisor-eq0-clause-value c =
