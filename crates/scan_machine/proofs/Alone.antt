@@ -6,16 +6,18 @@ use borrow.Author.Count.{below_more}
 use Rattle.function_blocks.specs.declared.kinds.Kind.{Kind}
 use Rattle.scan_machine.specs.declared.instructions.Instr.{Instr}
 use Rattle.scan_machine.specs.declared.instructions.Instr.TheVariants as i
-use Rattle.scan_machine.specs.Rules.{HasTarget, HasLoop, Lies, store_reach, Nest, NestsWith}
-use Rattle.scan_machine.specs.Checks.{StartsFrom, IsAlone, HaveTargets}
+use Rattle.scan_machine.specs.Rules.{HasTarget, HasLoop, Nest, NestsWith, StoresTo}
+use Rattle.scan_machine.specs.Inner.Reaches.{Lies, store_reach}
+use Rattle.scan_machine.specs.Inner.Loops.{StartsFrom, IsAlone}
+use Rattle.scan_machine.specs.Inner.FirstFault.{HaveTargets}
 
 -- one more instruction that leaves the loop alone
 pub alone_more : (code : List Instr) (address back at : ℕ) (d : Instr) → IsAlone code address back at
-    → (Lies address (store_reach (get_or code at d)) → ⊥) → StartsFrom back (get_or code at d) → IsAlone code address back (at + 1)
+    → (StoresTo (get_or code at d) address → ⊥) → StartsFrom back (get_or code at d) → IsAlone code address back (at + 1)
 alone_more code address back at d before stores starts k instr from below is =
-    let P : ℕ → Type 0 = λ k. (instr : Instr) → back ≤ k → slice_get code k ≡ Some instr → (Lies address (store_reach instr) → ⊥) × StartsFrom back instr in
+    let P : ℕ → Type 0 = λ k. (instr : Instr) → back ≤ k → slice_get code k ≡ Some instr → (StoresTo instr address → ⊥) × StartsFrom back instr in
     let here : P at = λ instr from is.
-    subst (λ instr. (Lies address (store_reach instr) → ⊥) × StartsFrom back instr) (get_or_from_slice_get code at instr d is) (stores, starts) in
+    subst (λ instr. (StoresTo instr address → ⊥) × StartsFrom back instr) (get_or_from_slice_get code at instr d is) (stores, starts) in
     below_more P at (λ k below instr from is. before k instr from below is) here k below instr from is
 
 -- the loop of an earlier Next

@@ -16,9 +16,11 @@ use Rattle.function_blocks.specs.Values.{is_on, clamped}
 use Rattle.function_blocks.specs.Fields.{field_count}
 use Rattle.function_blocks.specs.Blocks.{step_block}
 use Rattle.function_blocks.specs.Arithmetic.{bounded}
-use Rattle.scan_machine.specs.Numbers.{element, is_past}
-use Rattle.scan_machine.specs.Rules.{Lies, array_reach, HasWords, HasConstants}
-use Rattle.scan_machine.specs.Machine.{State, Left, onward, store, operated, operate, load_at, stored, stored_at, chosen, called, read, with_words, words_at, does}
+use Rattle.scan_machine.specs.Elements.{element, IsElement}
+use Rattle.scan_machine.specs.Machine.{is_past}
+use Rattle.scan_machine.specs.Inner.Reaches.{Lies, array_reach}
+use Rattle.scan_machine.specs.Rules.{HasWords, HasConstants, StoresTo}
+use Rattle.scan_machine.specs.Machine.{State, Operated, onward, store, operated, operate, load_at, stored, stored_at, chosen, called, read, with_words, words_at, does}
 use Rattle.scan_machine.proofs.Calling.{length-step_block, fields_some}
 use Rattle.scan_machine.proofs.Reaches.{reach_there}
 use Rattle.scan_machine.proofs.Turns.{Unchanged}
@@ -40,17 +42,11 @@ pub record Went (instr : Instr) (s s' : State) : Type 0 where
 pub set_other : (words : List ℤ) (address word : ℕ) (v : ℤ) → (address ≡ word → ⊥) → slice_index_or (slice_set words address v) word (pos 0) ≡ slice_index_or words word (pos 0)
 set_other words address word v differ = get_or-set_other words address word v (pos 0) (λ e. differ (sym e))
 
-one_reach : (address word : ℕ) → (Lies word (Some (address, 0)) → ⊥) → address ≡ word → ⊥
-one_reach address word apart e = apart (omega arith, omega arith)
+other_word : (address word : ℕ) → (word ≡ address → ⊥) → address ≡ word → ⊥
+other_word address word apart e = apart (sym e)
 
-element_lies : (address : ℕ) (low high x : ℤ) → low ≤ℤ high → Lies (element address low (bounded low high x).value) (array_reach address low high)
-element_lies address low high x up =
-    let index = (bounded low high x).value in
-    let from : low ≤ℤ index = omega (arith, ints, clamps) in
-    let to : index ≤ℤ high = omega (arith, ints, clamps) in
-    let e : int_le low high ≡ true = grind (arith, ints) in
-    let near : unsigned_abs (index -ℤ low) ≤ unsigned_abs (high -ℤ low) = omega (arith, ints) in
-    subst (λ (b : Bool). Lies (element address low index) (if b then Some (address, unsigned_abs (high -ℤ low)) else None)) (sym e) (omega arith, omega arith)
+pub within_bounds : (address : ℕ) (low high x : ℤ) → low ≤ℤ high → IsElement address low high (element address low (bounded low high x).value)
+within_bounds address low high x up = ((bounded low high x).value, omega (arith, ints, clamps), omega (arith, ints, clamps), refl)
 
 pub words_other : (words new : List ℤ) (address word : ℕ) → address + length new ≤ length words → (word < address) ⊎ (address + length new ≤ word)
     → slice_index_or (with_words words address new) word (pos 0) ≡ slice_index_or words word (pos 0)
@@ -74,7 +70,7 @@ words_other words new address word within (inr above) =
 moved : (instr : Instr) (s t s' : State) → Some t ≡ Some s' → Went instr s t → Went instr s s'
 moved instr s t s' e h = subst (λ z. Went instr s z) (same_Some t s' e) h
 
-went_operated : (s s' : State) (o : Option Left) → operated s o ≡ Some s' → (s'.index ≡ s.index + 1) × (s'.words ≡ s.words)
+went_operated : (s s' : State) (o : Option Operated) → operated s o ≡ Some s' → (s'.index ≡ s.index + 1) × (s'.words ≡ s.words)
 went_operated s s' None e = absurd (none-some s' e)
 went_operated s s' (Some l) e =
     let t : State = record (onward s l.stack) { flag = s.flag || l.flag } in
@@ -85,7 +81,7 @@ went_stored : (s s' : State) (address : ℕ) (kind : Kind) (stack : List ℤ) �
 went_stored s s' address kind [] e = absurd (none-some s' e)
 went_stored s s' address kind (x ∷ below) e =
     moved (i.Store address kind) s (store (onward s below) address (clamped kind x)) s' e
-    (record { leads = refl; same = λ word apart. set_other s.words address word (clamped kind x) (one_reach address word apart) })
+    (record { leads = refl; same = λ word apart. set_other s.words address word (clamped kind x) (other_word address word apart) })
 
 went_stored_at : (s s' : State) (address : ℕ) (kind : Kind) (low high : ℤ) (stack : List ℤ) → low ≤ℤ high → stored_at s address kind low high stack ≡ Some s'
     → Went (i.StoreAt address kind low high) s s'
@@ -97,7 +93,7 @@ went_stored_at s s' address kind low high (v ∷ x ∷ below) up e =
     (record {
       leads = refl;
       same = λ word apart. set_other s.words place word (clamped kind v)
-          (λ e. apart (subst (λ w. Lies w (array_reach address low high)) e (element_lies address low high x up)));
+          (λ e. apart (subst (λ w. IsElement address low high w) e (within_bounds address low high x up)));
     })
 
 either : (b : Bool) (m n : ℕ) → ((if b then m else n) ≡ m) ⊎ ((if b then m else n) ≡ n)
@@ -119,7 +115,7 @@ module _ (s s' : State) (address : ℕ) (kind : Kind) (step last : ℤ) (back : 
   went_turned true is e = moved (i.Next address kind step last back) s (onward s s.stack) s' e (record { leads = inl refl; same = λ word apart. refl })
   went_turned false is e =
       moved (i.Next address kind step last back) s (record (store s address sum) { index = back }) s' e
-      (record { leads = inr (refl, is, refl); same = λ word apart. set_other s.words address word sum (one_reach address word apart) })
+      (record { leads = inr (refl, is, refl); same = λ word apart. set_other s.words address word sum (other_word address word apart) })
 
 went_called : (s s' : State) (kind : BlockKind) (address : ℕ) (dt : ℤ) → HasWords (length s.words) (i.Call kind address) → Some (called s kind address dt) ≡ Some s'
     → Went (i.Call kind address) s s'
@@ -128,7 +124,7 @@ went_called s s' kind address dt there e =
     let size = length-step_block kind dt (words_at s.words address (field_count kind)) in
     let some = fields_some kind in
     let within = reach_there (length s.words) address (field_count kind - 1) (i.Call kind address) refl there in
-    let aside : (word : ℕ) → (Lies word (Some (address, field_count kind - 1)) → ⊥) → (word < address) ⊎ (address + length new ≤ word) =
+    let aside : (word : ℕ) → (StoresTo (i.Call kind address) word → ⊥) → (word < address) ⊎ (address + length new ≤ word) =
     λ word apart. elim (cases_lt word address) as (λ _. (word < address) ⊎ (address + length new ≤ word)) [
       | inl h ↦ inl h
       | inr h ↦ elim (cases_lt word (address + length new)) as (λ _. (word < address) ⊎ (address + length new ≤ word)) [

@@ -26,21 +26,15 @@ longer code dt n m s e e' less ran ran' is =
     none-some e' (sym (past_end code dt n k s e ran is) ∙ (ap (λ n. after code dt n s) at ∙ ran'))
 
 pub one_run : HasOneRun
-one_run code dt words stores n m words1 words2 flag1 flag2 stores1 stores2 ran ran' =
-    let s = at_start words stores in
-    let e1 = at_end code words1 flag1 stores1 in let e2 = at_end code words2 flag2 stores2 in
-    let same : n ≡ m =
-    elim (cases_lt n m) as (λ _. n ≡ m) [
-      | inl h ↦ absurd (longer code dt n m s e1 e2 h ran ran' refl)
-      | inr h ↦ elim (cases_lt m n) as (λ _. n ≡ m) [
-        | inl k ↦ absurd (longer code dt m n s e2 e1 k ran' ran refl)
+one_run code dt before x y ran ran' =
+    let s = at_start before in let e = at_end code x in let e' = at_end code y in
+    let same : x.count ≡ y.count =
+    elim (cases_lt x.count y.count) as (λ _. x.count ≡ y.count) [
+      | inl h ↦ absurd (longer code dt x.count y.count s e e' h ran ran' refl)
+      | inr h ↦ elim (cases_lt y.count x.count) as (λ _. x.count ≡ y.count) [
+        | inl k ↦ absurd (longer code dt y.count x.count s e' e k ran' ran refl)
         | inr k ↦ omega arith
       ]
     ] in
-    let is : e1 ≡ e2 = same_Some e1 e2 (sym ran ∙ (ap (λ k. after code dt k s) same ∙ ran')) in
-    record {
-      count = same;
-      words = ap (λ (z : State). z.words) is;
-      flag = ap (λ (z : State). z.flag) is;
-      stores = ap (λ (z : State). z.stores) is;
-    }
+    let is : e ≡ e' = same_Some e e' (sym ran ∙ (ap (λ k. after code dt k s) same ∙ ran')) in
+    λ i. record { memory = record { words = (is i).words; stores = (is i).stores }; flag = (is i).flag; count = same i }

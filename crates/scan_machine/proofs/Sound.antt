@@ -7,7 +7,7 @@ use Rattle.scan_machine.specs.declared.verified.CodeRule.{CodeRule}
 use Rattle.scan_machine.specs.declared.verified.CodeRule.TheVariants as rule
 use Rattle.scan_machine.specs.declared.verified.BadCode.{BadCode}
 use Rattle.scan_machine.specs.Rules.{HasWords, HasConstants, HasTarget, HasDepth, HasLoop, depth_at, rank, Keeps, IsTarget, IsVerified, IsFirstBroken, KeepsDepth}
-use Rattle.scan_machine.specs.Checks.{KeepsAlone, IsSoundAt, AreSoundBelow, IsFirstAlone, HaveTargets, HaveDepths, HaveEmptyTargets, IsLoaded}
+use Rattle.scan_machine.specs.Inner.FirstFault.{KeepsAlone, IsSoundAt, AreSoundBelow, IsFirstAlone, HaveTargets, HaveDepths, HaveEmptyTargets, IsLoaded}
 
 -- what is asked of the instruction at a place
 at_place : (b : Bool) (code : List Instr) (place : ℕ) (d : Instr) (P : Instr → Type 0) → place < length code

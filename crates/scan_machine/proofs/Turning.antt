@@ -7,9 +7,10 @@ use Rattle.function_blocks.specs.declared.arithmetic.Computed.{Computed}
 use Rattle.scan_machine.specs.declared.instructions.Instr.TheVariants as i
 use Rattle.function_blocks.specs.Values.{clamped}
 use Rattle.function_blocks.specs.Arithmetic.{bounded}
-use Rattle.scan_machine.specs.Numbers.{element, is_past}
+use Rattle.scan_machine.specs.Elements.{element}
+use Rattle.scan_machine.specs.Machine.{is_past}
 use Rattle.scan_machine.specs.Machine.{State, onward, store, read, does, stored_at}
-use Rattle.scan_machine.specs.Checks.{StoresAt}
+use Rattle.scan_machine.specs.Inner.Elements.{StoresAt}
 
 past_of : (b : Bool) (step step' last last' sum sum' : ℤ) → b ≡ is_past step' last' sum' → step' ≡ step → last' ≡ last → sum' ≡ sum → b ≡ is_past step last sum
 past_of b step step' last last' sum sum' is e f g =

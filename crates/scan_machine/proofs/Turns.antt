@@ -13,9 +13,10 @@ use Rattle.scan_machine.specs.declared.instructions.Instr.{Instr}
 use Rattle.scan_machine.specs.declared.instructions.Instr.TheVariants as i
 use Rattle.scan_machine.specs.declared.verified.CodeRule.TheVariants as rule
 use Rattle.function_blocks.specs.Values.{is_on, number, clamped}
-use Rattle.scan_machine.specs.Numbers.{is_past}
+use Rattle.scan_machine.specs.Machine.{is_past}
 use Rattle.scan_machine.specs.Machine.{read}
-use Rattle.scan_machine.specs.Rules.{IsOf, HasConstants, HasTarget, HasLoop, Lies, store_reach, IsVerified}
+use Rattle.scan_machine.specs.Rules.{IsOf, HasConstants, HasTarget, HasLoop, IsVerified, StoresTo}
+use Rattle.scan_machine.specs.Inner.Reaches.{Lies, store_reach}
 use Rattle.scan_machine.proofs.Alone.{starts_from}
 use Rattle.scan_machine.proofs.Digits.{value, value_less}
 
@@ -173,7 +174,7 @@ digit_of-some words index _ = omega arith
 -- the words that an instruction can't store to stay
 abbrev pub Unchanged : List ℤ → List ℤ → Instr → Type 0
 Unchanged words words' instr =
-    (word : ℕ) → (Lies word (store_reach instr) → ⊥) → slice_index_or words' word (pos 0) ≡ slice_index_or words word (pos 0)
+    (word : ℕ) → (StoresTo instr word → ⊥) → slice_index_or words' word (pos 0) ≡ slice_index_or words word (pos 0)
 
 module _ (code : List Instr) (total : ℕ) (kept : IsVerified code total) where
   constants : (at : ℕ) → at < length code → HasConstants (get_or code at i.Limit)

@@ -7,7 +7,7 @@ use borrow.Author.Count.{below_more}
 use Rattle.scan_machine.specs.declared.instructions.Instr.{Instr}
 use Rattle.scan_machine.specs.declared.instructions.Instr.TheVariants as i
 use Rattle.scan_machine.specs.Rules.{depth_after, depth_at, EmptiesStack, HasDepth}
-use Rattle.scan_machine.specs.Checks.{HaveDepths, NamesEmpty, HaveEmptyTargets, IsLoaded}
+use Rattle.scan_machine.specs.Inner.FirstFault.{HaveDepths, NamesEmpty, HaveEmptyTargets, IsLoaded}
 
 pub depth_more : (code : List Instr) (at : ℕ) (d : Instr) → at < length code → depth_at code (at + 1) ≡ depth_after (depth_at code at) (get_or code at d)
 depth_more code at d within = fold_more depth_after 0 code at d within

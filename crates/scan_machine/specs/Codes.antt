@@ -1,7 +1,8 @@
--- What a caller sees of verified code: its instructions, and the number of words that it works on.
+-- Verified code, as a caller sees it.
 use Rattle.std.specs.Prelude.{ℕ, List}
 use Rattle.scan_machine.specs.declared.instructions.Instr.{Instr}
 
+-- the instructions, and the number of words that they work on
 pub record CodeValue : Type 0 where
   pub list : List Instr
   pub words : ℕ

@@ -2,9 +2,10 @@ pub use Rattle.function_blocks.specs.Values
 pub use Rattle.function_blocks.specs.Arithmetic
 pub use Rattle.function_blocks.specs.Fields
 pub use Rattle.function_blocks.specs.Blocks
+pub use Rattle.tri_base.specs.Noted
+pub mod Elements
 pub mod Rules
-pub mod Checks
-pub mod Numbers
 pub mod Machine
 pub mod Codes
 pub mod Laws
+pub mod Inner

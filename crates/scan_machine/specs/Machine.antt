@@ -14,29 +14,29 @@ use Rattle.function_blocks.specs.Values.{is_on, number, clamped}
 use Rattle.function_blocks.specs.Fields.{field_count}
 use Rattle.function_blocks.specs.Blocks.{step_block}
 use Rattle.function_blocks.specs.Arithmetic.{exact, quotient, remainder, bounded}
-use Rattle.scan_machine.specs.Numbers.{element, is_past}
+use Rattle.scan_machine.specs.Elements.{element}
 
 -- ---- operands
 
 -- the operands that an instruction leaves, the last one first, and whether a number was clamped
-pub record Left : Type 0 where
+pub record Operated : Type 0 where
   pub stack : List ℤ
   pub flag : Bool
 
 -- a computed number on top of these operands
-abbrev pub on_top : Computed → List ℤ → Option Left
+abbrev pub on_top : Computed → List ℤ → Option Operated
 on_top c below = Some (record { stack = c.value ∷ below; flag = c.flag })
 
 -- a number on top of these operands
-abbrev pub one_operand : ℤ → List ℤ → Option Left
+abbrev pub one_operand : ℤ → List ℤ → Option Operated
 one_operand v below = Some (record { stack = v ∷ below; flag = false })
 
 -- 1 or 0 on top of these operands
-abbrev pub answer : Bool → List ℤ → Option Left
+abbrev pub answer : Bool → List ℤ → Option Operated
 answer b below = one_operand (number b) below
 
 -- what an instruction that works on operands alone makes of them; none where an operand lacks
-abbrev pub operate : Instr → List ℤ → Option Left
+abbrev pub operate : Instr → List ℤ → Option Operated
 operate (i.Add kind) (y ∷ x ∷ below) = on_top (exact kind (x +ℤ y)) below
 operate (i.Sub kind) (y ∷ x ∷ below) = on_top (exact kind (x -ℤ y)) below
 operate (i.Mul kind) (y ∷ x ∷ below) = on_top (exact kind (x *ℤ y)) below
@@ -104,7 +104,7 @@ abbrev pub onward : State → List ℤ → State
 onward s stack = record s { index = s.index + 1; stack = stack }
 
 -- the next instruction with what is left of the operands
-abbrev pub operated : State → Option Left → Option State
+abbrev pub operated : State → Option Operated → Option State
 operated s None = None
 operated s (Some l) = Some (record (onward s l.stack) { flag = s.flag || l.flag })
 
@@ -114,7 +114,7 @@ stored s address kind [] = None
 stored s address kind (x ∷ below) = Some (store (onward s below) address (clamped kind x))
 
 -- the element of an array at the index on top
-abbrev pub load_at : List ℤ → ℕ → Kind → ℤ → ℤ → List ℤ → Option Left
+abbrev pub load_at : List ℤ → ℕ → Kind → ℤ → ℤ → List ℤ → Option Operated
 load_at words address kind low high [] = None
 load_at words address kind low high (x ∷ below) =
     let index = bounded low high x in
@@ -132,6 +132,10 @@ abbrev pub chosen : State → ℕ → List ℤ → Option State
 chosen s target [] = None
 chosen s target (x ∷ below) = Some (record s { index = if is_on x then s.index + 1 else target; stack = below })
 
+-- a sum is past the last value, in the direction of the step
+abbrev pub is_past : (step last sum : ℤ) → Bool
+is_past step last sum = if int_lt (pos 0) step then int_lt last sum else int_lt sum last
+
 -- a loop goes back with the sum where that isn't past the last value, and is left else
 abbrev pub turned : State → ℕ → (step last sum : ℤ) → ℕ → State
 turned s address step last sum back =
@@ -146,7 +150,7 @@ called s kind address dt =
       stores = noted_all address fields s.stores;
     }
 
--- one instruction, `dt` milliseconds after the last run; none where an operand lacks
+-- one instruction, in a scan of `dt` milliseconds; none where an operand lacks
 abbrev pub does : ℤ → Instr → State → Option State
 does dt (i.Push v) s = Some (onward s (v ∷ s.stack))
 does dt (i.Load address kind) s = Some (onward s (read s.words address kind ∷ s.stack))
@@ -170,15 +174,26 @@ unfoldable pub after : List Instr → ℤ → ℕ → State → Option State
 after code dt zero s = Some s
 after code dt (suc n) s = option_and_then (next code dt) (after code dt n s)
 
--- a run begins at the first instruction, with these words and the stores that were noted before
-abbrev pub at_start : List ℤ → List (ℕ × ℤ) → State
-at_start words stores = record { index = 0; stack = []; words = words; flag = false; stores = stores }
+-- what a run works on: the words, and the stores that were noted
+pub record Memory : Type 0 where
+  pub words : List ℤ
+  pub stores : List (ℕ × ℤ)
+
+-- what a run leaves: the memory, whether a computed number was clamped, and how many instructions were done
+pub record Ran : Type 0 where
+  pub memory : Memory
+  pub flag : Bool
+  pub count : ℕ
+
+-- a run begins at the first instruction, with no operand
+abbrev pub at_start : Memory → State
+at_start m = record { index = 0; stack = []; words = m.words; flag = false; stores = m.stores }
 
 -- a run ends behind the last instruction, with no operand left
-abbrev pub at_end : List Instr → List ℤ → Bool → List (ℕ × ℤ) → State
-at_end code words flag stores = record { index = length code; stack = []; words = words; flag = flag; stores = stores }
+abbrev pub at_end : List Instr → Ran → State
+at_end code ran =
+    record { index = length code; stack = []; words = ran.memory.words; flag = ran.flag; stores = ran.memory.stores }
 
--- from these words and stores a run does so many instructions, and leaves those words, that flag and those stores
-abbrev pub Runs : List Instr → ℤ → List ℤ → List (ℕ × ℤ) → ℕ → List ℤ → Bool → List (ℕ × ℤ) → Type 0
-Runs code dt words stores count words' flag stores' =
-    after code dt count (at_start words stores) ≡ Some (at_end code words' flag stores')
+-- from this memory a run of the code ends so
+abbrev pub Runs : List Instr → ℤ → Memory → Ran → Type 0
+Runs code dt before ran = after code dt ran.count (at_start before) ≡ Some (at_end code ran)

@@ -1,6 +1,6 @@
 -- The five rules that each instruction of verified code keeps, as statements about the whole list.
-use Rattle.std.specs.Prelude.{◌≡◌, ℕ, ◌+◌, ◌-◌, ◌<◌, ◌≤◌, ℤ, pos, negsuc, ◌≤ℤ◌, ◌-ℤ◌, ◌≢◌, ◌⊎◌, List, Option, None, Some, length, take, fold, slice_get, unsigned_abs, IfSome, if◌then◌else◌}
-use Rattle.std.specs.Int.RustNames.{int_le}
+use Rattle.std.specs.Prelude.{◌≡◌, ℕ, ◌+◌, ◌-◌, ◌<◌, ◌≤◌, ℤ, pos, ◌≤ℤ◌, ◌≢◌, ◌⊎◌, List, Option, None, Some, length, take, fold, slice_get, IfSome}
+use Rattle.function_blocks.specs.declared.kinds.Kind.TheVariants as kinds
 use Rattle.function_blocks.specs.declared.kinds.Kind.{Kind}
 use Rattle.scan_machine.specs.declared.instructions.Instr.{Instr}
 use Rattle.scan_machine.specs.declared.instructions.Instr.TheVariants as i
@@ -9,39 +9,83 @@ use Rattle.scan_machine.specs.declared.verified.CodeRule.TheVariants as rule
 use Rattle.scan_machine.specs.declared.verified.BadCode.{BadCode}
 use Rattle.function_blocks.specs.Values.{least, greatest, IsOperand}
 use Rattle.function_blocks.specs.Fields.{field_count}
+use Rattle.scan_machine.specs.Elements.{IsElement}
 
 -- ---- Address
 
--- the words from the first to the last index of an array, where there are any
-abbrev pub array_reach : ℕ → ℤ → ℤ → Option (ℕ × ℕ)
-array_reach address low high = if int_le low high then Some (address, unsigned_abs (high -ℤ low)) else None
+-- the instruction can touch the word
+abbrev pub Touches : Instr → ℕ → Type 0
+Touches (i.Push v) word = ⊥
+Touches (i.Load address kind) word = word ≡ address
+Touches (i.Store address kind) word = word ≡ address
+Touches (i.LoadAt address kind low high) word = IsElement address low high word
+Touches (i.StoreAt address kind low high) word = IsElement address low high word
+Touches (i.Add kind) word = ⊥
+Touches (i.Sub kind) word = ⊥
+Touches (i.Mul kind) word = ⊥
+Touches (i.Div kind) word = ⊥
+Touches (i.Mod kind) word = ⊥
+Touches (i.Min kind) word = ⊥
+Touches (i.Max kind) word = ⊥
+Touches (i.Neg kind) word = ⊥
+Touches (i.Abs kind) word = ⊥
+Touches (i.Convert kind) word = ⊥
+Touches i.Limit word = ⊥
+Touches i.Select word = ⊥
+Touches i.And word = ⊥
+Touches i.Or word = ⊥
+Touches i.Xor word = ⊥
+Touches i.Not word = ⊥
+Touches i.Eq word = ⊥
+Touches i.Ne word = ⊥
+Touches i.Lt word = ⊥
+Touches i.Gt word = ⊥
+Touches i.Le word = ⊥
+Touches i.Ge word = ⊥
+Touches (i.Within low high) word = ⊥
+Touches (i.Jump target) word = ⊥
+Touches (i.JumpFalse target) word = ⊥
+Touches (i.Next address kind step last back) word = word ≡ address
+Touches (i.Call kind address) word = (address ≤ word) × (word < address + field_count kind)
 
--- the first word that an instruction can touch, and how many more it can touch behind it
-abbrev pub reach : Instr → Option (ℕ × ℕ)
-reach (i.Load address kind) = Some (address, 0)
-reach (i.Store address kind) = Some (address, 0)
-reach (i.LoadAt address kind low high) = array_reach address low high
-reach (i.StoreAt address kind low high) = array_reach address low high
-reach (i.Next address kind step last back) = Some (address, 0)
-reach (i.Call kind address) = Some (address, field_count kind - 1)
-reach _ = None
-
--- the same of the words that it can store to
-abbrev pub store_reach : Instr → Option (ℕ × ℕ)
-store_reach (i.Store address kind) = Some (address, 0)
-store_reach (i.StoreAt address kind low high) = array_reach address low high
-store_reach (i.Next address kind step last back) = Some (address, 0)
-store_reach (i.Call kind address) = Some (address, field_count kind - 1)
-store_reach _ = None
-
--- a word lies in a reach
-abbrev pub Lies : ℕ → Option (ℕ × ℕ) → Type 0
-Lies word None = ⊥
-Lies word (Some r) = (r.0 ≤ word) × (word ≤ r.0 + r.1)
+-- the instruction can store to the word
+abbrev pub StoresTo : Instr → ℕ → Type 0
+StoresTo (i.Push v) word = ⊥
+StoresTo (i.Load address kind) word = ⊥
+StoresTo (i.Store address kind) word = word ≡ address
+StoresTo (i.LoadAt address kind low high) word = ⊥
+StoresTo (i.StoreAt address kind low high) word = IsElement address low high word
+StoresTo (i.Add kind) word = ⊥
+StoresTo (i.Sub kind) word = ⊥
+StoresTo (i.Mul kind) word = ⊥
+StoresTo (i.Div kind) word = ⊥
+StoresTo (i.Mod kind) word = ⊥
+StoresTo (i.Min kind) word = ⊥
+StoresTo (i.Max kind) word = ⊥
+StoresTo (i.Neg kind) word = ⊥
+StoresTo (i.Abs kind) word = ⊥
+StoresTo (i.Convert kind) word = ⊥
+StoresTo i.Limit word = ⊥
+StoresTo i.Select word = ⊥
+StoresTo i.And word = ⊥
+StoresTo i.Or word = ⊥
+StoresTo i.Xor word = ⊥
+StoresTo i.Not word = ⊥
+StoresTo i.Eq word = ⊥
+StoresTo i.Ne word = ⊥
+StoresTo i.Lt word = ⊥
+StoresTo i.Gt word = ⊥
+StoresTo i.Le word = ⊥
+StoresTo i.Ge word = ⊥
+StoresTo (i.Within low high) word = ⊥
+StoresTo (i.Jump target) word = ⊥
+StoresTo (i.JumpFalse target) word = ⊥
+StoresTo (i.Next address kind step last back) word = word ≡ address
+StoresTo (i.Call kind address) word = (address ≤ word) × (word < address + field_count kind)
 
 -- all words that the instruction can touch are there
 abbrev pub HasWords : ℕ → Instr → Type 0
-HasWords words instr = (word : ℕ) → Lies word (reach instr) → word < words
+HasWords words instr = (word : ℕ) → Touches instr word → word < words
 
 -- ---- Constant
 
@@ -51,10 +95,10 @@ IsOf kind v = (least kind ≤ℤ v) × (v ≤ℤ greatest kind)
 
 -- the bounds of an array: both lie within DINT, and the lower isn't above the upper
 abbrev pub AreBounds : ℤ → ℤ → Type 0
-AreBounds low high = (low ≤ℤ high) × (negsuc 2147483647 ≤ℤ low) × (high ≤ℤ pos 2147483647)
+AreBounds low high = (low ≤ℤ high) × (least kinds.Dint ≤ℤ low) × (high ≤ℤ greatest kinds.Dint)
 
 -- a pushed number and the bounds of a Within lie in the range of a constant; step and last of a Next are values of its
--- kind, and the step isn't 0; the bounds of an array are bounds
+-- kind, and the step isn't 0; an array has bounds
 abbrev pub HasConstants : Instr → Type 0
 HasConstants (i.Push v) = IsOperand v
 HasConstants (i.Within low high) = IsOperand low × IsOperand high
@@ -73,6 +117,10 @@ HasTarget count place (i.Next address kind step last back) = back ≤ place
 HasTarget count place _ = Unit {0}
 
 -- ---- Depth
+
+-- how many operands wait at most
+abbrev pub operand_limit : ℕ
+operand_limit = 1024
 
 -- how many operands an instruction pops
 abbrev pub takes : Instr → ℕ
@@ -109,7 +157,7 @@ abbrev pub depth_after : ℕ → Instr → ℕ
 depth_after depth (i.Jump target) = 0
 depth_after depth instr = depth - takes instr + gives instr
 
--- how many operands wait before the instruction at a place
+-- how many operands wait before the instruction at a place, in order of the places
 abbrev pub depth_at : List Instr → ℕ → ℕ
 depth_at code place = fold depth_after 0 (take place code)
 
@@ -120,10 +168,10 @@ EmptiesStack (i.JumpFalse target) = Unit {0}
 EmptiesStack (i.Next address kind step last back) = Unit {0}
 EmptiesStack _ = ⊥
 
--- no operand lacks, at most 1,024 wait afterwards, and none at a jump after its pop
+-- no operand lacks, no more than the limit wait afterwards, and none at a jump after its pop
 pub record HasDepth (depth : ℕ) (instr : Instr) : Type 0 where
   pub operands : takes instr ≤ depth
-  pub room : depth - takes instr + gives instr ≤ 1024
+  pub room : depth - takes instr + gives instr ≤ operand_limit
   pub emptied : EmptiesStack instr → depth ≡ takes instr
 
 -- the place that an instruction names
@@ -163,7 +211,7 @@ NestsWith from to at _ = Unit {0}
 abbrev pub HasLoop : List Instr → ℕ → Instr → Type 0
 HasLoop code place (i.Next address kind step last back) =
     (at : ℕ) → (instr : Instr) → at < place → slice_get code at ≡ Some instr
-    → (back ≤ at → Lies address (store_reach instr) → ⊥) × NestsWith back place at instr
+    → (back ≤ at → StoresTo instr address → ⊥) × NestsWith back place at instr
 HasLoop code place _ = Unit {0}
 
 -- ---- all five

@@ -2,7 +2,7 @@
 
 ghost use Rattle.std.specs.Prelude.{◌≡◌, ◌+◌, ◌-◌, ◌<◌, ◌≤◌, length};
 ghost use Rattle.scan_machine.specs.Rules.{depth_after, depth_at};
-ghost use Rattle.scan_machine.specs.Checks.{HaveDepths, IsLoaded, HaveEmptyTargets, NamesEmpty};
+ghost use Rattle.scan_machine.specs.Inner.FirstFault.{HaveDepths, IsLoaded, HaveEmptyTargets, NamesEmpty};
 
 use crate::instructions::Instr;
 use crate::rules::{empties_stack, has_target};

@@ -1,5 +1,6 @@
 ghost use Rattle.std.specs.Prelude.{◌≡◌, ◌≤◌};
-ghost use Rattle.scan_machine.specs.Rules.{array_reach, reach, store_reach, takes, gives, named};
+ghost use Rattle.scan_machine.specs.Inner.Reaches.{array_reach, reach, store_reach};
+ghost use Rattle.scan_machine.specs.Rules.{takes, gives, named};
 
 use function_blocks::{BlockKind, Kind, field_count};
 

@@ -3,11 +3,12 @@
 ghost use Rattle.std.specs.Prelude.{ℕ, ◌||◌, ◌≡◌, ◌<◌, ◌≤◌, ◌+◌, ◌^◌, ◌≤ℤ◌, ◌-ℤ◌, pos, ◌∷◌, Some, length, slice_set, slice_index_or, unsigned_abs};
 ghost use Rattle.tri_base.specs.Noted.{noted};
 ghost use Rattle.function_blocks.specs.Values.{IsOperand};
-ghost use Rattle.scan_machine.specs.Checks.{GoesOn, StoresAt};
+ghost use Rattle.scan_machine.specs.Inner.Groups.{GoesOn};
+ghost use Rattle.scan_machine.specs.Inner.Elements.{StoresAt};
 ghost use Rattle.function_blocks.specs.Fields.{field_count};
 ghost use Rattle.function_blocks.specs.Blocks.{step_block};
 ghost use Rattle.function_blocks.specs.Arithmetic.{bounded};
-ghost use Rattle.scan_machine.specs.Numbers.{element};
+ghost use Rattle.scan_machine.specs.Elements.{element};
 ghost use Rattle.scan_machine.specs.Rules.{HasWords, HasConstants, AreBounds, takes, gives};
 ghost use Rattle.scan_machine.specs.Machine.{does, load_at, noted_all, words_at, with_words};
 

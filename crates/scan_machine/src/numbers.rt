@@ -1,5 +1,5 @@
 ghost use Rattle.std.specs.Prelude.{◌≡◌};
-ghost use Rattle.scan_machine.specs.Numbers.{is_past};
+ghost use Rattle.scan_machine.specs.Machine.{is_past};
 
 /// Whether a sum is past the last value, in the direction of the step.
 #[inline]

@@ -3,7 +3,7 @@
 ghost use Rattle.std.specs.Prelude.{◌≡◌, ◌≤◌, ◌+◌, ◌-◌, ℤ, List, [], ◌∷◌, Some, length};
 ghost use Rattle.scan_machine.specs.Rules.{takes, gives};
 ghost use Rattle.scan_machine.specs.Machine.{operate, on_top, answer, one_operand};
-ghost use Rattle.scan_machine.specs.Checks.{IsArithmetic, IsTest, IsBinary, IsUnary, IsTernary, IsOperation};
+ghost use Rattle.scan_machine.specs.Inner.Groups.{IsArithmetic, IsTest, IsBinary, IsUnary, IsTernary, IsOperation};
 ghost use Rattle.function_blocks.specs.Values.{IsOperand};
 ghost use Rattle.std.specs.Prelude.{◌&&◌};
 ghost use Rattle.std.specs.Int.{int_max, int_min};

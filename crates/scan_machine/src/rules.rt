@@ -1,9 +1,11 @@
 // Each rule of verified code, asked of one instruction.
 
 ghost use Rattle.std.specs.Prelude.{◌≡◌, ◌+◌, ◌<◌, ◌≤◌, ◌↔◌, ℕ, length, slice_get, IsTrue, IfSome};
-ghost use Rattle.scan_machine.specs.Rules.{HasWords, HasConstants, HasTarget, HasDepth, HasLoop, IsOf, AreBounds, EmptiesStack, Lies, store_reach};
+ghost use Rattle.scan_machine.specs.Rules.{HasWords, HasConstants, HasTarget, HasDepth, HasLoop, IsOf, AreBounds, EmptiesStack, StoresTo};
+ghost use Rattle.scan_machine.specs.Inner.Reaches.{Lies, store_reach};
 ghost use Rattle.function_blocks.specs.Values.{IsOperand, least, greatest};
-ghost use Rattle.scan_machine.specs.Checks.{StartsFrom, IsAlone, HaveTargets};
+ghost use Rattle.scan_machine.specs.Inner.Loops.{StartsFrom, IsAlone};
+ghost use Rattle.scan_machine.specs.Inner.FirstFault.{HaveTargets};
 
 use crate::instructions::Instr;
 use function_blocks::Kind;
@@ -130,9 +132,16 @@ fn is_alone(code: &[Instr], address: usize, back: usize, place: usize) -> bool
 
 // Whether the instruction can store to the word.
 fn stores_to(instr: &Instr, word: usize) -> bool
-    ensures { IsTrue result ↔ Lies word (store_reach instr.now) }
+    ensures { IsTrue result ↔ StoresTo instr.now word }
 {
-    match instr.store_reach() {
+    lies(word, instr.store_reach())
+}
+
+// Whether the word is one of those from the first one on.
+fn lies(word: usize, reach: Option<(usize, usize)>) -> bool
+    ensures { IsTrue result ↔ Lies word reach }
+{
+    match reach {
         Some((first, more)) => first <= word && word - first <= more,
         None => false,
     }

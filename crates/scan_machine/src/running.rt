@@ -10,8 +10,7 @@ use crate::verified::Code;
 use std::sync::ledger::Ledger;
 use tri_base::{Touched, Words};
 
-/// Runs code on words, `dt` milliseconds after the last run, and says whether a computed number was
-/// clamped. The stores are noted, each address once with the number that stood there before.
+/// Runs code on words, in a scan of `dt` milliseconds, and says whether a computed number was clamped. The stores are noted, each address once with the number that stood there before.
 /// `steps` counts the instructions. It takes no memory.
 pub fn run<L: Ledger>(
     code: &Code,
@@ -24,7 +23,7 @@ pub fn run<L: Ledger>(
     requires from { pos 0 ≤ℤ dt }
     requires to { dt ≤ℤ pos 10_000 }
     requires touched { code.now.words ≤ touched.old.size }
-    ensures ran { (count : ℕ) × Runs code.now.list dt words.old.list touched.old.pairs count words.new.list result touched.new.pairs × (steps.new ≡ steps.old + count) }
+    ensures ran { (count : ℕ) × Runs code.now.list dt (record { words = words.old.list; stores = touched.old.pairs }) (record { memory = record { words = words.new.list; stores = touched.new.pairs }; flag = result; count = count }) × (steps.new ≡ steps.old + count) }
     ensures length { length words.new.list ≡ length words.old.list }
     ensures spare { words.new.spare ≡ words.old.spare }
     ensures size { touched.new.size ≡ touched.old.size }
@@ -45,7 +44,7 @@ fn run_on<L: Ledger>(
     requires from { pos 0 ≤ℤ dt }
     requires to { dt ≤ℤ pos 10_000 }
     requires touched { length words.old ≤ touched.old.size }
-    ensures ran { (count : ℕ) × Runs code.now dt words.old touched.old.pairs count words.new result touched.new.pairs × (steps.new ≡ steps.old + count) }
+    ensures ran { (count : ℕ) × Runs code.now dt (record { words = words.old; stores = touched.old.pairs }) (record { memory = record { words = words.new; stores = touched.new.pairs }; flag = result; count = count }) × (steps.new ≡ steps.old + count) }
     ensures size { touched.new.size ≡ touched.old.size }
 {
     let mut stack = Operands::new();

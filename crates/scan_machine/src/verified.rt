@@ -1,6 +1,6 @@
 ghost use Rattle.std.specs.Prelude.{◌≡◌, ◌<◌, ◌≤◌, ◌+◌, ◌↔◌, length, IsTrue, MatchOption};
 ghost use Rattle.scan_machine.specs.Rules.{depth_at, rank, IsVerified, IsFirstBroken};
-ghost use Rattle.scan_machine.specs.Checks.{HaveTargets, KeepsAlone, IsBrokenAt, IsSoundAt, AreSoundBelow, IsFirstAlone, HaveEmptyTargets, IsLoaded};
+ghost use Rattle.scan_machine.specs.Inner.FirstFault.{HaveTargets, KeepsAlone, IsBrokenAt, IsSoundAt, AreSoundBelow, IsFirstAlone, HaveEmptyTargets, IsLoaded};
 
 use crate::depths::{depth_after, first_loaded};
 use crate::instructions::Instr;

@@ -1,5 +1,5 @@
 use Rattle.std.proofs.Common.{ℕ, ◌<◌, ◌≤◌}
-use Rattle.scan_machine.specs.Checks.{IsLoaded, NamesEmpty}
+use Rattle.scan_machine.specs.Inner.FirstFault.{IsLoaded, NamesEmpty}
 use Rattle.scan_machine.proofs.depths.first_loaded.Given as goal
 
 abbrev pub invariant-loop-at : goal.invariant-loop-at

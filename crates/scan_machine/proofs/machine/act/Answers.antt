@@ -3,7 +3,8 @@ use Rattle.std.proofs.lemmas.Int.{ints}
 use Rattle.std.specs.Prelude.{unsigned_abs}
 use Rattle.scan_machine.specs.declared.instructions.Instr.{Instr}
 use Rattle.function_blocks.specs.Fields.{field_count}
-use Rattle.scan_machine.specs.Rules.{AreBounds, HasConstants, reach}
+use Rattle.scan_machine.specs.Rules.{AreBounds, HasConstants}
+use Rattle.scan_machine.specs.Inner.Reaches.{reach}
 use Rattle.scan_machine.specs.Machine.{State, does}
 use Rattle.scan_machine.proofs.Reaches.{reach_there, array_there, is_operation}
 use Rattle.scan_machine.proofs.Calling.{fields_some}

@@ -5,7 +5,8 @@ use Rattle.tri_base.specs.Noted.{TouchedValue}
 use Rattle.scan_machine.specs.declared.instructions.Instr.{Instr}
 use Rattle.scan_machine.specs.declared.instructions.Instr.TheVariants as i
 use Rattle.function_blocks.specs.Values.{clamped}
-use Rattle.scan_machine.specs.Rules.{HasConstants, reach}
+use Rattle.scan_machine.specs.Rules.{HasConstants}
+use Rattle.scan_machine.specs.Inner.Reaches.{reach}
 use Rattle.scan_machine.specs.Machine.{State, read, does}
 use Rattle.scan_machine.proofs.Reaches.{reach_there, goes_on}
 use Rattle.scan_machine.proofs.Turns.{within_dint}

@@ -1,4 +1,4 @@
-use Rattle.scan_machine.specs.Checks.{IsAlone}
+use Rattle.scan_machine.specs.Inner.Loops.{IsAlone}
 use Rattle.scan_machine.proofs.rules.is_alone.Given as goal
 
 abbrev pub invariant-loop-at : goal.invariant-loop-at

@@ -13,7 +13,7 @@ pub loop-index-init : goal.loop-index-init
 loop-index-init g c =
     let none = c.new-stack.ensures in
     record {
-      ran = (0, begun c.args.code.now (to_z w64 (of_z w64 c.args.dt)) c.args.words.now c.new-stack.result c.args.touched.now.pairs none, omega arith);
+      ran = (0, begun c.args.code.now (to_z w64 (of_z w64 c.args.dt)) (record { words = c.args.words.now; stores = c.args.touched.now.pairs }) c.new-stack.result none, omega arith);
       within = omega arith;
       depth = ap length none;
       size = refl;
@@ -75,7 +75,7 @@ loop-index-preserved g c =
     record {
       ran = (
         ran.0 + 1,
-        ran_more code dt ran.0 (at_start c.args.words.now c.args.touched.now.pairs) s s' (get_or code l.index d) ran.1 (instr_at code total c.requires.verified l.index d here) n.ensures.value,
+        ran_more code dt ran.0 (at_start (record { words = c.args.words.now; stores = c.args.touched.now.pairs })) s s' (get_or code l.index d) ran.1 (instr_at code total c.requires.verified l.index d here) n.ensures.value,
         omega (arith, ran.2, ticked),
       );
       within = step_within code total c.requires.verified d s s' here l.auto.words move;
@@ -88,7 +88,9 @@ returns-clause-ran g c =
     let l = c.loop-index in let ran = l.invariant.ran in
     let same : to_z w64 (of_z w64 c.args.dt) ≡ c.args.dt = omega (arith, ints) in (
       ran.0,
-      ended c.args.code.now (length c.args.words.now) c.requires.verified c.args.dt (to_z w64 (of_z w64 c.args.dt)) ran.0 l.index c.args.words.now l.words l.stack l.flag
-          c.args.touched.now.pairs l.touched.pairs same l.invariant.within c.loop-index-test.false l.invariant.depth ran.1,
+      ended c.args.code.now (length c.args.words.now) c.requires.verified c.args.dt (to_z w64 (of_z w64 c.args.dt))
+          (record { words = c.args.words.now; stores = c.args.touched.now.pairs }) ran.0
+          (record { index = l.index; stack = l.stack; words = l.words; flag = l.flag; stores = l.touched.pairs })
+          same l.invariant.within c.loop-index-test.false l.invariant.depth ran.1,
       ran.2,
     )

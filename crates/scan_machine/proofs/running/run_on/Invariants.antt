@@ -7,7 +7,7 @@ use Rattle.scan_machine.proofs.running.run_on.Given as goal
 abbrev pub invariant-loop-index : goal.invariant-loop-index
 invariant-loop-index g l = record {
   ran : (count : ℕ)
-      × (after l.code l.dt count (at_start l.fn.words l.fn.touched.pairs)
+      × (after l.code l.dt count (at_start (record { words = l.fn.words; stores = l.fn.touched.pairs }))
       ≡ Some (record { index = l.index; stack = l.stack; words = l.words; flag = l.flag; stores = l.touched.pairs }))
       × (l.steps ≡ l.fn.steps + count);
   within : l.index ≤ length l.code;

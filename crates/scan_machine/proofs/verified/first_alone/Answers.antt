@@ -1,7 +1,7 @@
 use Rattle.std.proofs.Common.{◌≡◌, ◌≤◌, ◌+◌, length, get_or, pos, arith, subst, sym, ap, refl, ◌∙◌}
 use Rattle.scan_machine.specs.declared.instructions.Instr.TheVariants.{Push, Limit}
 use Rattle.scan_machine.specs.Rules.{depth_at, depth_after}
-use Rattle.scan_machine.specs.Checks.{AreSoundBelow}
+use Rattle.scan_machine.specs.Inner.FirstFault.{AreSoundBelow}
 use Rattle.scan_machine.proofs.Waiting.{depth_bound, depth_more}
 use Rattle.scan_machine.proofs.Sound.{sound_more, sound_targets, sound_depths, sound_end, end_before_depth}
 use Rattle.scan_machine.proofs.verified.first_alone.Goals as goal

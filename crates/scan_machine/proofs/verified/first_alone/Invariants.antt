@@ -1,6 +1,6 @@
 use Rattle.std.proofs.Common.{◌≡◌}
 use Rattle.scan_machine.specs.Rules.{depth_at}
-use Rattle.scan_machine.specs.Checks.{AreSoundBelow}
+use Rattle.scan_machine.specs.Inner.FirstFault.{AreSoundBelow}
 use Rattle.scan_machine.proofs.verified.first_alone.Given as goal
 
 abbrev pub invariant-loop-index : goal.invariant-loop-index
