@@ -1,0 +1,5 @@
+pub mod Codec
+pub mod Paired
+pub mod Said
+pub mod Spelling
+pub mod Tails

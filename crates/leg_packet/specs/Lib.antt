@@ -1,0 +1,4 @@
+pub mod Inner
+pub mod Readings
+pub mod Sheets
+pub mod Views
