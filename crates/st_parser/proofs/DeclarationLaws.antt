@@ -3,15 +3,15 @@ use Rattle.std.proofs.Common.{◌≡◌, ℕ, suc, ◌<◌, Bool, true, ◌||◌
 use Rattle.st_tree.specs.declared.token.Fixed.{Fixed}
 use Rattle.st_tree.specs.declared.token.Fixed.TheVariants as w
 use Rattle.st_tree.specs.declared.token.Token.{Token}
-use Rattle.st_tree.specs.declared.tag_type.Simple.{Simple}
-use Rattle.st_tree.specs.declared.tag_type.Simple.TheVariants as simple
+use Rattle.function_blocks.specs.declared.kinds.Kind.{Kind as Simple}
+use Rattle.function_blocks.specs.declared.kinds.Kind.TheVariants as simple
 use Rattle.st_tree.specs.declared.declaration.Sign.{Sign}
 use Rattle.st_tree.specs.declared.declaration.Sign.TheVariants as sign
 use Rattle.st_tree.specs.declared.declaration.Integer.{Integer}
 use Rattle.st_tree.specs.declared.declaration.Constant.{Constant}
 use Rattle.st_tree.specs.declared.declaration.Constant.TheVariants as constant
-use Rattle.st_tree.specs.declared.declaration.BlockType.{BlockType}
-use Rattle.st_tree.specs.declared.declaration.BlockType.TheVariants as block
+use Rattle.function_blocks.specs.declared.blocks.BlockKind.{BlockKind}
+use Rattle.function_blocks.specs.declared.blocks.BlockKind.TheVariants as block
 use Rattle.st_tree.specs.declared.declaration.DeclaredType.{DeclaredType}
 use Rattle.st_tree.specs.declared.declaration.DeclaredType.TheVariants as declared
 use Rattle.st_tree.specs.declared.declaration.Declaration.{Declaration}
@@ -51,7 +51,7 @@ simple_table = record { back = back; only = refl }
 block_table : Table block_of block_word
 block_table = record { back = back; only = refl }
   where
-    back : (a : BlockType) → block_of (block_word a) ≡ Some a
+    back : (a : BlockKind) → block_of (block_word a) ≡ Some a
     back block.RTrig = refl
     back block.FTrig = refl
     back block.Sr = refl

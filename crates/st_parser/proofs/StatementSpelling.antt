@@ -1,5 +1,5 @@
 -- What each whole statement spells, by its parts.
-use Rattle.std.proofs.Common.{◌≡◌, ℕ, List, [], ◌∷◌, ◌++◌, map, Option, Some, None, refl, ap, sym, ◌∙◌}
+use Rattle.std.proofs.Common.{◌≡◌, ℕ, List, [], ◌∷◌, ◌++◌, map, Option, Some, None, refl, ap, sym, ◌∙◌, append_assoc}
 use Rattle.st_tree.specs.declared.token.Fixed.{Fixed}
 use Rattle.st_tree.specs.declared.token.Fixed.TheVariants as w
 use Rattle.st_tree.specs.declared.declaration.PlacedName.{PlacedName}
@@ -40,7 +40,8 @@ pub element-is : (first : Label) (more : List Label) (body : List Statement) →
     ≡ spell_label first · each (λ l. word w.Comma · spell_label l) more · word w.Colon · each spell_statement body
 unfolding spell_statement spell_branch spell_element
 element-is first more body = fold-roll-Element (List Piece) (List Piece) (List Piece) statement branch element (record { first = first; more = more; body = body })
-    ∙ ap (λ ps. spell_label first ++ (each (λ l. word w.Comma · spell_label l) more ++ (word w.Colon ++ ps))) (each_of spell_statement body)
+    ∙ (ap (λ ps. (spell_label first ++ each (λ l. word w.Comma · spell_label l) more) ++ (word w.Colon ++ ps)) (each_of spell_statement body)
+    ∙ append_assoc (spell_label first) (each (λ l. word w.Comma · spell_label l) more) (word w.Colon ++ each spell_statement body))
 
 pub empty-is : spell_statement v.Empty ≡ word w.Semicolon
 unfolding spell_statement spell_branch spell_element

@@ -1,7 +1,7 @@
 -- Reading declarations: each part as a parser. The number is more than the tokens that are left.
 use Rattle.std.specs.Prelude.{ℕ, List, Option}
 use Rattle.st_tree.specs.declared.token.Fixed.TheVariants as w
-use Rattle.st_tree.specs.declared.tag_type.Simple.{Simple}
+use Rattle.function_blocks.specs.declared.kinds.Kind.{Kind as Simple}
 use Rattle.st_tree.specs.declared.declaration.PlacedName.{PlacedName}
 use Rattle.st_tree.specs.declared.declaration.Sign.{Sign}
 use Rattle.st_tree.specs.declared.declaration.Integer.{Integer}

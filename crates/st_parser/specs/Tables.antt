@@ -14,10 +14,10 @@ use Rattle.st_tree.specs.declared.expression.Function.{Function}
 use Rattle.st_tree.specs.declared.expression.Function.TheVariants as function
 use Rattle.st_tree.specs.declared.declaration.Sign.{Sign}
 use Rattle.st_tree.specs.declared.declaration.Sign.TheVariants as sign
-use Rattle.st_tree.specs.declared.tag_type.Simple.{Simple}
-use Rattle.st_tree.specs.declared.tag_type.Simple.TheVariants as simple
-use Rattle.st_tree.specs.declared.declaration.BlockType.{BlockType}
-use Rattle.st_tree.specs.declared.declaration.BlockType.TheVariants as block
+use Rattle.function_blocks.specs.declared.kinds.Kind.{Kind as Simple}
+use Rattle.function_blocks.specs.declared.kinds.Kind.TheVariants as simple
+use Rattle.function_blocks.specs.declared.blocks.BlockKind.{BlockKind}
+use Rattle.function_blocks.specs.declared.blocks.BlockKind.TheVariants as block
 
 abbrev pub equal_of : Fixed → Option EqualOperator
 equal_of w.Equals = Some equal.Equal
@@ -68,7 +68,7 @@ simple_of w.Int = Some simple.Int
 simple_of w.Dint = Some simple.Dint
 simple_of _ = None
 
-abbrev pub block_of : Fixed → Option BlockType
+abbrev pub block_of : Fixed → Option BlockKind
 block_of w.RTrig = Some block.RTrig
 block_of w.FTrig = Some block.FTrig
 block_of w.Sr = Some block.Sr

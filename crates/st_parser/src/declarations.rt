@@ -6,7 +6,7 @@ ghost use Rattle.st_parser.specs.ReadDeclarations as spec;
 use crate::cursor::Cursor;
 use crate::many::many;
 use crate::refusal::Refusal;
-use crate::tables::{block_type, sign_word, simple_type, truth_value};
+use crate::tables::{block_kind, sign_word, simple_type, truth_value};
 use st_tree::{
     Block, Constant, Declaration, DeclaredType, ExternalDeclaration, Fixed, Integer, Names,
     PlacedName, Sign, Simple,
@@ -77,7 +77,7 @@ fn declared_type(tokens: &mut Cursor<'_>) -> Result<DeclaredType, Refusal>
     if tokens.sees_some(simple_type) {
         return Ok(DeclaredType::Simple(simple(tokens)?));
     }
-    Ok(DeclaredType::Block(tokens.entry(block_type)?))
+    Ok(DeclaredType::Block(tokens.entry(block_kind)?))
 }
 
 #[tactic(auto, unfolding(crate::specs::ReadDeclarations::next_name))]

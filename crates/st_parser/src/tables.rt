@@ -4,7 +4,7 @@ ghost use Rattle.std.specs.Prelude.{◌≡◌};
 ghost use Rattle.st_parser.specs.Tables as spec;
 
 use st_tree::{
-    AddOperator, BlockType, CompareOperator, EqualOperator, Fixed, Function, MultiplyOperator,
+    AddOperator, BlockKind, CompareOperator, EqualOperator, Fixed, Function, MultiplyOperator,
     Sign, Simple,
 };
 
@@ -97,19 +97,19 @@ pub fn simple_type(word: Fixed) -> Option<Simple>
     }
 }
 
-pub fn block_type(word: Fixed) -> Option<BlockType>
+pub fn block_kind(word: Fixed) -> Option<BlockKind>
     ensures { result ≡ spec.block_of word }
 {
     match word {
-        Fixed::RTrig => Some(BlockType::RTrig),
-        Fixed::FTrig => Some(BlockType::FTrig),
-        Fixed::Sr => Some(BlockType::Sr),
-        Fixed::Rs => Some(BlockType::Rs),
-        Fixed::Ctu => Some(BlockType::Ctu),
-        Fixed::Ctd => Some(BlockType::Ctd),
-        Fixed::Ton => Some(BlockType::Ton),
-        Fixed::Tof => Some(BlockType::Tof),
-        Fixed::Tp => Some(BlockType::Tp),
+        Fixed::RTrig => Some(BlockKind::RTrig),
+        Fixed::FTrig => Some(BlockKind::FTrig),
+        Fixed::Sr => Some(BlockKind::Sr),
+        Fixed::Rs => Some(BlockKind::Rs),
+        Fixed::Ctu => Some(BlockKind::Ctu),
+        Fixed::Ctd => Some(BlockKind::Ctd),
+        Fixed::Ton => Some(BlockKind::Ton),
+        Fixed::Tof => Some(BlockKind::Tof),
+        Fixed::Tp => Some(BlockKind::Tp),
         _ => None,
     }
 }

@@ -2,15 +2,15 @@
 use Rattle.std.specs.Prelude.{List}
 use Rattle.st_tree.specs.declared.token.Fixed.{Fixed}
 use Rattle.st_tree.specs.declared.token.Fixed.TheVariants as w
-use Rattle.st_tree.specs.declared.tag_type.Simple.{Simple}
-use Rattle.st_tree.specs.declared.tag_type.Simple.TheVariants as simple
+use Rattle.function_blocks.specs.declared.kinds.Kind.{Kind as Simple}
+use Rattle.function_blocks.specs.declared.kinds.Kind.TheVariants as simple
+use Rattle.function_blocks.specs.declared.blocks.BlockKind.{BlockKind}
+use Rattle.function_blocks.specs.declared.blocks.BlockKind.TheVariants as block
 use Rattle.st_tree.specs.declared.declaration.Sign.{Sign}
 use Rattle.st_tree.specs.declared.declaration.Sign.TheVariants as sign
 use Rattle.st_tree.specs.declared.declaration.Integer.{Integer}
 use Rattle.st_tree.specs.declared.declaration.Constant.{Constant}
 use Rattle.st_tree.specs.declared.declaration.Constant.TheVariants as constant
-use Rattle.st_tree.specs.declared.declaration.BlockType.{BlockType}
-use Rattle.st_tree.specs.declared.declaration.BlockType.TheVariants as block
 use Rattle.st_tree.specs.declared.declaration.DeclaredType.{DeclaredType}
 use Rattle.st_tree.specs.declared.declaration.DeclaredType.TheVariants as declared
 use Rattle.st_tree.specs.declared.declaration.Names.{Names}
@@ -18,7 +18,8 @@ use Rattle.st_tree.specs.declared.declaration.Declaration.{Declaration}
 use Rattle.st_tree.specs.declared.declaration.ExternalDeclaration.{ExternalDeclaration}
 use Rattle.st_tree.specs.declared.declaration.Block.{Block}
 use Rattle.st_tree.specs.declared.declaration.Block.TheVariants as part
-use Rattle.st_tree.specs.Pieces.{Piece, ◌·◌, word, word_at, number_at, name, each, maybe}
+use Rattle.st_tree.specs.Pieces.{Piece, ◌·◌, word, word_at, number_at, name, each, separated, maybe}
+use Rattle.st_tree.specs.Listed.{names_of}
 use Rattle.st_tree.specs.Expressions.{truth_word}
 
 -- the symbol of a sign
@@ -42,7 +43,7 @@ simple_word simple.Int = w.Int
 simple_word simple.Dint = w.Dint
 
 -- the reserved word of a function block
-abbrev pub block_word : BlockType → Fixed
+abbrev pub block_word : BlockKind → Fixed
 block_word block.RTrig = w.RTrig
 block_word block.FTrig = w.FTrig
 block_word block.Sr = w.Sr
@@ -61,7 +62,7 @@ spell_type (declared.Block b) = word (block_word b)
 
 -- tags = name { "," name }
 abbrev pub spell_names : Names → List Piece
-spell_names names = name names.first · each (λ n. word w.Comma · name n) names.more
+spell_names names = separated w.Comma name (names_of names)
 
 -- tags ":" kind [ ":=" constant ] ";"
 abbrev pub spell_declaration : Declaration → List Piece

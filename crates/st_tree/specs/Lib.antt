@@ -1,9 +1,12 @@
 pub mod Words
 pub mod Numerals
 pub mod Lexes
+pub mod Listed
+pub mod Integers
 pub mod Pieces
 pub mod Expressions
 pub mod Declarations
 pub mod Statements
 pub mod Programs
+pub mod Tags
 pub mod Nesting

@@ -49,6 +49,11 @@ name n = Placed (kind.Name n.name) n.place ∷ []
 abbrev pub each : {A : Type 0} → (A → List Piece) → List A → List Piece
 each part parts = flat_map part parts
 
+-- such parts in order, with this word or symbol between
+abbrev pub separated : {A : Type 0} → Fixed → (A → List Piece) → List A → List Piece
+separated w part [] = []
+separated w part (a ∷ more) = part a · each (λ b. word w · part b) more
+
 -- such a part or nothing
 abbrev pub maybe : {A : Type 0} → (A → List Piece) → Option A → List Piece
 maybe part None = []

@@ -10,7 +10,8 @@ use Rattle.st_tree.specs.declared.statement.Statement.{Statement, fold-Statement
 use Rattle.st_tree.specs.declared.statement.Branch.{Branch, fold-Branch}
 use Rattle.st_tree.specs.declared.statement.Element.{Element, fold-Element}
 use Rattle.st_tree.specs.declared.statement.Statement.TheOpen.{Statement-F, Branch-F, Element-F}
-use Rattle.st_tree.specs.Pieces.{Piece, ◌·◌, word, word_at, name, each, maybe}
+use Rattle.st_tree.specs.Pieces.{Piece, ◌·◌, word, word_at, name, each, separated, maybe}
+use Rattle.st_tree.specs.Listed.{listed, inputs_of}
 use Rattle.st_tree.specs.Expressions.{spell_expr}
 use Rattle.st_tree.specs.Declarations.{spell_integer}
 
@@ -24,7 +25,7 @@ spell_input i = name i.name · word w.Assign · spell_expr i.value
 
 -- input { "," input }
 abbrev pub spell_inputs : Inputs → List Piece
-spell_inputs inputs = spell_input inputs.first · each (λ i. word w.Comma · spell_input i) inputs.more
+spell_inputs inputs = separated w.Comma spell_input (inputs_of inputs)
 
 -- name "(" [ input { "," input } ] ")" ";"
 abbrev pub spell_call : BlockCall → List Piece
@@ -55,7 +56,7 @@ branch b = spell_expr b.condition · word w.Then · each (λ s. s) b.body
 
 -- element = label { "," label } ":" { statement }
 abbrev pub element : Element-F (List Piece) (List Piece) (List Piece) → List Piece
-element e = spell_label e.first · each (λ l. word w.Comma · spell_label l) e.more · word w.Colon · each (λ s. s) e.body
+element e = separated w.Comma spell_label (listed e.first e.more) · word w.Colon · each (λ s. s) e.body
 
 -- what a whole statement, branch and element spells
 unfoldable pub spell_statement : Statement → List Piece

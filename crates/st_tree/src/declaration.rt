@@ -1,4 +1,7 @@
-use crate::tag_type::Simple;
+ghost use Rattle.std.specs.Prelude.{◌≡◌};
+ghost use Rattle.st_tree.specs.Integers.{integer_value, integer_place};
+
+use function_blocks::{BlockKind, Kind as Simple};
 use sqlite_items::Items;
 use tri_base::Name;
 
@@ -23,26 +26,34 @@ pub struct Integer {
     pub place: usize,
 }
 
+impl Integer {
+    /// The number with its sign.
+    pub fn value(self) -> i64
+        ensures { result ≡ integer_value self }
+    {
+        match self.sign {
+            Some((Sign::Minus, _)) => -i64::from(self.number),
+            _ => i64::from(self.number),
+        }
+    }
+
+    /// The byte place of its first token.
+    pub fn first_place(self) -> usize
+        ensures { result ≡ integer_place self }
+    {
+        match self.sign {
+            Some((_, place)) => place,
+            None => self.place,
+        }
+    }
+}
+
 /// The first value of a tag.
 #[derive(Clone, Copy, Debug, PartialEq, Eq)]
 pub enum Constant {
     Integer(Integer),
     /// TRUE or FALSE, and its place.
     Truth(bool, usize),
-}
-
-/// A standard function block.
-#[derive(Clone, Copy, Debug, PartialEq, Eq)]
-pub enum BlockType {
-    RTrig,
-    FTrig,
-    Sr,
-    Rs,
-    Ctu,
-    Ctd,
-    Ton,
-    Tof,
-    Tp,
 }
 
 /// A type as it is written.
@@ -55,7 +66,7 @@ pub enum DeclaredType {
         high: Integer,
         element: Simple,
     },
-    Block(BlockType),
+    Block(BlockKind),
 }
 
 /// One or more names with commas between.

@@ -1,10 +1,4 @@
-/// A type of one word.
-#[derive(Clone, Copy, Debug, PartialEq, Eq)]
-pub enum Simple {
-    Bool,
-    Int,
-    Dint,
-}
+use function_blocks::Kind as Simple;
 
 /// What a tag is: one word, an array of words with its bounds, or a function block.
 #[derive(Clone, Copy, Debug, PartialEq, Eq)]

@@ -1,0 +1,15 @@
+use crate::declaration::{Constant, DeclaredType};
+use tri_base::Name;
+
+/// A declared tag.
+#[derive(Clone, Copy, Debug, PartialEq, Eq)]
+pub struct Tag {
+    pub name: Name,
+    /// The byte place of the name where it is declared.
+    pub place: usize,
+    pub declared: DeclaredType,
+    /// The first value that is written, if any.
+    pub constant: Option<Constant>,
+    /// Declared in VAR_EXTERNAL: the tag of a point.
+    pub external: bool,
+}
