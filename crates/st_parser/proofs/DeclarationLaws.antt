@@ -31,7 +31,8 @@ use Rattle.st_parser.proofs.Choices.{Always, Made, Either, Or, Not, recast, fewe
 use Rattle.st_parser.proofs.Repeats.{many_part}
 use Rattle.st_parser.proofs.Sets.{fit, Table}
 use Rattle.st_parser.proofs.Tokens.{name_law, number_law, entry_law, entry_at_law}
-use Rattle.st_parser.proofs.ExpressionLaws.{truth_table, some_token}
+use Rattle.st_parser.proofs.StatementSpelling.{plain_block-is, external_block-is}
+use Rattle.st_parser.proofs.ExpressionLaws.{truth_table, some_token, put, get}
 
 sign_table : Table sign_of sign_word
 sign_table = record { back = back; only = refl }
@@ -206,13 +207,13 @@ block_law n = recast n _ _ Blocks (Is spell_block) _ Always to from
     (either_part n (sees w.Var) _ _ _ _ _ _ (sees w.Var) (sees w.VarExternal) Always (plain_law n) (external_block_law n) (fit (sees w.Var) (sees w.Var) refl (λ _. refl) (λ _. refl) refl) (fit (sees w.VarExternal) (Not (sees w.Var)) refl (λ _. refl) (λ _. refl) refl))
   where
     to : (b : Block) (ts : List Token) → Blocks b ts → Is spell_block b ts
-    to b ts (inl h) = subst (λ (x : Block). ArePieces (spell_block x) ts) h.1 h.2
-    to b ts (inr h) = subst (λ (x : Block). ArePieces (spell_block x) ts) h.1 h.2
+    to b ts (inl h) = put spell_block b (part.Plain h.0.0) _ ts h.1 (plain_block-is h.0.0) h.2
+    to b ts (inr h) = put spell_block b (part.External h.0.0) _ ts h.1 (external_block-is h.0.0) h.2
 
     from : (b : Block) (ts : List Token) → Is spell_block b ts → Blocks b ts
-    from (part.Plain ds) ts h = inl ((ds, tt), refl, h)
-    from (part.External ds) ts h = inr ((ds, tt), refl, h)
+    from (part.Plain ds) ts h = inl ((ds, tt), refl, get spell_block (part.Plain ds) (part.Plain ds) _ ts refl (plain_block-is ds) h)
+    from (part.External ds) ts h = inr ((ds, tt), refl, get spell_block (part.External ds) (part.External ds) _ ts refl (external_block-is ds) h)
 
 pub block_some : (b : Block) (ts : List Token) → Is spell_block b ts → 0 < length ts
-block_some (part.Plain ds) ts h = some_token (spell_block (part.Plain ds)) refl ts h
-block_some (part.External ds) ts h = some_token (spell_block (part.External ds)) refl ts h
+block_some (part.Plain ds) ts h = some_token (word w.Var · each spell_declaration ds · word w.EndVar) refl ts (get spell_block (part.Plain ds) (part.Plain ds) _ ts refl (plain_block-is ds) h)
+block_some (part.External ds) ts h = some_token (word w.VarExternal · each spell_external ds · word w.EndVar) refl ts (get spell_block (part.External ds) (part.External ds) _ ts refl (external_block-is ds) h)

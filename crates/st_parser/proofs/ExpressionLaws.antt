@@ -31,7 +31,7 @@ use Rattle.st_tree.specs.declared.expression.Arguments.{Arguments, roll-Argument
 use Rattle.st_tree.specs.declared.expression.Primary.TheOpen.{Primary-F, Unary-F}
 use Rattle.st_tree.specs.Pieces.{Piece, ArePieces, ◌·◌, word, word_at, number_at, each}
 use Rattle.st_tree.specs.Pieces as pieces
-use Rattle.st_tree.specs.Expressions.{equal_word, compare_word, add_word, multiply_word, function_word, truth_word, spell_expr, spell_exclusive, spell_conjunction, spell_equality, spell_comparison, spell_sum, spell_product, spell_unary, spell_primary, spell_arguments}
+use Rattle.st_tree.specs.Expressions.{equal_word, compare_word, add_word, multiply_word, function_word, truth_word, spell_expr}
 use Rattle.st_parser.specs.Parsers.{Parser, Look, ahead, ◌⨟◌, expect, place_of, name, entry, entry_at, sees, sees_name, sees_number, sees_some}
 use Rattle.st_parser.specs.Tables.{equal_of, compare_of, add_of, multiply_of, function_of, truth_of}
 use Rattle.st_parser.specs.ReadExpressions as read
@@ -42,7 +42,7 @@ use Rattle.st_parser.proofs.Choices.{Always, Made, Either, Or, Not, recast, adju
 use Rattle.st_parser.proofs.Repeats.{many_part}
 use Rattle.st_parser.proofs.Sets.{fit, Table}
 use Rattle.st_parser.proofs.Tokens.{name_law, number_law, place_law, entry_law, entry_at_law}
-use Rattle.st_parser.proofs.Spelling.{spell_operation, product-is, sum-is, comparison-is, equality-is, conjunction-is, exclusive-is, expr-is, arguments-is, plain-is, minus-is, not-is, number-is, truth-is, tag-is, field-is, element-is, bracketed-is, call-is}
+use Rattle.st_parser.proofs.Spelling.{spell_exclusive, spell_conjunction, spell_equality, spell_comparison, spell_sum, spell_product, spell_unary, spell_primary, spell_arguments, spell_operation, product-is, sum-is, comparison-is, equality-is, conjunction-is, exclusive-is, expr-is, arguments-is, plain-is, minus-is, not-is, number-is, truth-is, tag-is, field-is, element-is, bracketed-is, call-is}
 
 -- ---- tables
 

@@ -17,7 +17,7 @@ use Rattle.st_tree.specs.Pieces.{Piece, ArePieces, ◌·◌, word, word_at, each
 use Rattle.st_tree.specs.Pieces as pieces
 use Rattle.st_tree.specs.Expressions.{spell_expr}
 use Rattle.st_tree.specs.Declarations.{spell_integer}
-use Rattle.st_tree.specs.Statements.{spell_input, spell_inputs, spell_label, spell_statement, spell_branch, spell_element}
+use Rattle.st_tree.specs.Statements.{spell_input, spell_inputs, spell_label, spell_statement}
 use Rattle.st_parser.specs.Parsers.{Parser, Look, place_of, name, sees, sees_name}
 use Rattle.st_parser.specs.ReadExpressions.{expr_at}
 use Rattle.st_parser.specs.ReadStatements as read
@@ -30,7 +30,7 @@ use Rattle.st_parser.proofs.Sets.{fit}
 use Rattle.st_parser.proofs.Tokens.{name_law, place_law}
 use Rattle.st_parser.proofs.ExpressionLaws.{starts_unary, ends_expr, expr_laws, put, get, some_token}
 use Rattle.st_parser.proofs.DeclarationLaws.{after_same, starts_integer, integer_law}
-use Rattle.st_parser.proofs.StatementSpelling.{spell_otherwise, branch-is, element-is, empty-is, assignment-is, call-is, exit-is, return-is, if-is, case-is, for-is}
+use Rattle.st_parser.proofs.StatementSpelling.{spell_branch, spell_element, spell_otherwise, branch-is, element-is, empty-is, assignment-is, call-is, exit-is, return-is, if-is, case-is, for-is}
 
 range_law : (n : ℕ) → Lawful n read.range_end read.range_end (Is (pieces.maybe (λ i. word w.Range · spell_integer i))) (Or (sees w.Range) (Not (sees w.Range))) (Not (sees w.Range))
 range_law n = maybe_part n (sees w.Range) _ _ (λ i. word w.Range · spell_integer i) (sees w.Range) Always (Not (sees w.Range)) (after_same n w.Range _ _ spell_integer starts_integer Always (integer_law n))

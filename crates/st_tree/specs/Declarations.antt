@@ -17,7 +17,7 @@ use Rattle.st_tree.specs.declared.declaration.Names.{Names}
 use Rattle.st_tree.specs.declared.declaration.Declaration.{Declaration}
 use Rattle.st_tree.specs.declared.declaration.ExternalDeclaration.{ExternalDeclaration}
 use Rattle.st_tree.specs.declared.declaration.Block.{Block}
-use Rattle.st_tree.specs.declared.declaration.Block.TheVariants as part
+use Rattle.st_tree.specs.DeclarationFolds.{DeclarationSteps, fold_block}
 use Rattle.st_tree.specs.Pieces.{Piece, ◌·◌, word, word_at, number_at, name, each, separated, maybe}
 use Rattle.st_tree.specs.Listed.{names_of}
 use Rattle.st_tree.specs.Expressions.{truth_word}
@@ -54,10 +54,13 @@ block_word block.Ton = w.Ton
 block_word block.Tof = w.Tof
 block_word block.Tp = w.Tp
 
--- kind = simple | ARRAY "[" integer ".." integer "]" OF simple | R_TRIG | F_TRIG | SR | RS | CTU | CTD | TON | TOF | TP
+-- kind = simple | ARRAY "[" integer ".." integer "]" OF simple
+--      | R_TRIG | F_TRIG | SR | RS | CTU | CTD | TON | TOF | TP
 abbrev pub spell_type : DeclaredType → List Piece
 spell_type (declared.Simple s) = word (simple_word s)
-spell_type (declared.Array low high element) = word w.Array · word w.OpenBracket · spell_integer low · word w.Range · spell_integer high · word w.CloseBracket · word w.Of · word (simple_word element)
+spell_type (declared.Array low high element) =
+    word w.Array · word w.OpenBracket · spell_integer low · word w.Range · spell_integer high · word w.CloseBracket
+    · word w.Of · word (simple_word element)
 spell_type (declared.Block b) = word (block_word b)
 
 -- tags = name { "," name }
@@ -66,13 +69,25 @@ spell_names names = separated w.Comma name (names_of names)
 
 -- tags ":" kind [ ":=" constant ] ";"
 abbrev pub spell_declaration : Declaration → List Piece
-spell_declaration d = spell_names d.names · word w.Colon · spell_type d.declared · maybe (λ c. word w.Assign · spell_constant c) d.constant · word w.Semicolon
+spell_declaration d =
+    spell_names d.names · word w.Colon · spell_type d.declared
+    · maybe (λ c. word w.Assign · spell_constant c) d.constant · word w.Semicolon
 
 -- tags ":" simple ";"
 abbrev pub spell_external : ExternalDeclaration → List Piece
 spell_external d = spell_names d.names · word w.Colon · word (simple_word d.declared) · word w.Semicolon
 
--- block = VAR { tags ":" kind [ ":=" constant ] ";" } END_VAR | VAR_EXTERNAL { tags ":" simple ";" } END_VAR
-abbrev pub spell_block : Block → List Piece
-spell_block (part.Plain declarations) = word w.Var · each spell_declaration declarations · word w.EndVar
-spell_block (part.External declarations) = word w.VarExternal · each spell_external declarations · word w.EndVar
+-- what each part of a declaration spells, where the declarations of a block spell these pieces
+abbrev pub spelled : DeclarationSteps (List Piece) (List Piece)
+spelled = record {
+  declaration = spell_declaration;
+  external = spell_external;
+  -- VAR { tags ":" kind [ ":=" constant ] ";" } END_VAR
+  plain_block = λ declarations. word w.Var · each (λ declaration. declaration) declarations · word w.EndVar;
+  -- VAR_EXTERNAL { tags ":" simple ";" } END_VAR
+  external_block = λ externals. word w.VarExternal · each (λ external. external) externals · word w.EndVar;
+}
+
+-- what a block of declarations spells
+unfoldable pub spell_block : Block → List Piece
+spell_block = fold_block spelled

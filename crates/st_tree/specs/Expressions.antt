@@ -13,18 +13,11 @@ use Rattle.st_tree.specs.declared.expression.MultiplyOperator.{MultiplyOperator}
 use Rattle.st_tree.specs.declared.expression.MultiplyOperator.TheVariants as multiply
 use Rattle.st_tree.specs.declared.expression.Function.{Function}
 use Rattle.st_tree.specs.declared.expression.Function.TheVariants as function
-use Rattle.st_tree.specs.declared.expression.Expr.{Expr, fold-Expr}
-use Rattle.st_tree.specs.declared.expression.Exclusive.{Exclusive, fold-Exclusive}
-use Rattle.st_tree.specs.declared.expression.Conjunction.{Conjunction, fold-Conjunction}
-use Rattle.st_tree.specs.declared.expression.Equality.{Equality, fold-Equality}
-use Rattle.st_tree.specs.declared.expression.Comparison.{Comparison, fold-Comparison}
-use Rattle.st_tree.specs.declared.expression.Sum.{Sum, fold-Sum}
-use Rattle.st_tree.specs.declared.expression.Product.{Product, fold-Product}
-use Rattle.st_tree.specs.declared.expression.Unary.{Unary, fold-Unary}
-use Rattle.st_tree.specs.declared.expression.Primary.{Primary, fold-Primary}
-use Rattle.st_tree.specs.declared.expression.Arguments.{Arguments, fold-Arguments}
-use Rattle.st_tree.specs.declared.expression.Primary.TheOpen.{Primary-F, Unary-F, Arguments-F, Comparison-F, Conjunction-F, Equality-F, Exclusive-F, Expr-F, Product-F, Sum-F}
-use Rattle.st_tree.specs.Pieces.{Piece, ◌·◌, word, word_at, number_at, name, each}
+use Rattle.st_tree.specs.declared.expression.Expr.{Expr}
+use Rattle.st_tree.specs.declared.expression.Primary.TheOpen.{Primary-F, Unary-F}
+use Rattle.st_tree.specs.ExpressionFolds.{ExpressionSteps, PrimaryPart, UnaryPart, fold_expr}
+use Rattle.st_tree.specs.Listed.{listed}
+use Rattle.st_tree.specs.Pieces.{Piece, ◌·◌, word, word_at, number_at, name, each, separated}
 
 -- = and <>
 abbrev pub equal_word : EqualOperator → Fixed
@@ -68,90 +61,55 @@ truth_word false = w.False
 abbrev pub operation : {O : Type 0} → (O → Fixed) → Operation O (List Piece) → List Piece
 operation written part = word (written part.operator) · part.operand
 
--- expr = xor { OR xor }
-abbrev pub expr : Expr-F (List Piece) (List Piece) (List Piece) (List Piece) (List Piece) (List Piece) (List Piece) (List Piece) (List Piece) (List Piece) → List Piece
-expr e = e.first · each (λ x. word w.Or · x) e.more
+-- an operand, and any number of others, each behind its operator
+abbrev pub joined : {O : Type 0} → (O → Fixed) → List Piece → List (Operation O (List Piece)) → List Piece
+joined written first more = first · each (operation written) more
 
--- xor = and { XOR and }
-abbrev pub exclusive : Exclusive-F (List Piece) (List Piece) (List Piece) (List Piece) (List Piece) (List Piece) (List Piece) (List Piece) (List Piece) (List Piece) → List Piece
-exclusive e = e.first · each (λ x. word w.Xor · x) e.more
+-- one or more parts with this word or symbol between
+abbrev pub with_between : Fixed → List Piece → List (List Piece) → List Piece
+with_between w first more = separated w (λ part. part) (listed first more)
 
--- and = equal { AND equal }
-abbrev pub conjunction : Conjunction-F (List Piece) (List Piece) (List Piece) (List Piece) (List Piece) (List Piece) (List Piece) (List Piece) (List Piece) (List Piece) → List Piece
-conjunction e = e.first · each (λ x. word w.And · x) e.more
-
--- equal = less { ( "=" | "<>" ) less }
-abbrev pub equality : Equality-F (List Piece) (List Piece) (List Piece) (List Piece) (List Piece) (List Piece) (List Piece) (List Piece) (List Piece) (List Piece) → List Piece
-equality e = e.first · each (operation equal_word) e.more
-
--- less = sum { ( "<" | ">" | "<=" | ">=" ) sum }
-abbrev pub comparison : Comparison-F (List Piece) (List Piece) (List Piece) (List Piece) (List Piece) (List Piece) (List Piece) (List Piece) (List Piece) (List Piece) → List Piece
-comparison e = e.first · each (operation compare_word) e.more
-
--- sum = product { ( "+" | "-" ) product }
-abbrev pub sum : Sum-F (List Piece) (List Piece) (List Piece) (List Piece) (List Piece) (List Piece) (List Piece) (List Piece) (List Piece) (List Piece) → List Piece
-sum e = e.first · each (operation add_word) e.more
-
--- product = unary { ( "*" | "/" | MOD ) unary }
-abbrev pub product : Product-F (List Piece) (List Piece) (List Piece) (List Piece) (List Piece) (List Piece) (List Piece) (List Piece) (List Piece) (List Piece) → List Piece
-product e = e.first · each (operation multiply_word) e.more
-
--- unary = [ "-" | NOT ] primary
-abbrev pub unary : Unary-F (List Piece) (List Piece) (List Piece) (List Piece) (List Piece) (List Piece) (List Piece) (List Piece) (List Piece) (List Piece) → List Piece
-unary (Unary-F.Plain primary) = primary
-unary (Unary-F.Minus place primary) = word_at w.Minus place · primary
-unary (Unary-F.Not place primary) = word_at w.Not place · primary
-
--- primary = number | TRUE | FALSE | name [ "." name ] | name "[" expr "]" | "(" expr ")" | function "(" expr { "," expr } ")"
-abbrev pub primary : Primary-F (List Piece) (List Piece) (List Piece) (List Piece) (List Piece) (List Piece) (List Piece) (List Piece) (List Piece) (List Piece) → List Piece
+-- primary = number | TRUE | FALSE | name [ "." name ] | name "[" expr "]" | "(" expr ")"
+--         | function "(" expr { "," expr } ")"
+abbrev pub primary : PrimaryPart (List Piece) (List Piece) (List Piece) → List Piece
 primary (Primary-F.Number n place) = number_at n place
 primary (Primary-F.Truth value place) = word_at (truth_word value) place
 primary (Primary-F.Tag tag) = name tag
 primary (Primary-F.Field block field) = name block · word w.Dot · name field
 primary (Primary-F.Element array index) = name array · word w.OpenBracket · index · word w.CloseBracket
 primary (Primary-F.Bracketed place inside) = word_at w.OpenParen place · inside · word w.CloseParen
-primary (Primary-F.Call function place arguments) = word_at (function_word function) place · word w.OpenParen · arguments · word w.CloseParen
+primary (Primary-F.Call function place arguments) =
+    word_at (function_word function) place · word w.OpenParen · arguments · word w.CloseParen
 
--- one or more, with commas between
-abbrev pub arguments : Arguments-F (List Piece) (List Piece) (List Piece) (List Piece) (List Piece) (List Piece) (List Piece) (List Piece) (List Piece) (List Piece) → List Piece
-arguments a = a.first · each (λ x. word w.Comma · x) a.more
+-- unary = [ "-" | NOT ] primary
+abbrev pub unary : UnaryPart (List Piece) (List Piece) (List Piece) → List Piece
+unary (Unary-F.Plain primary) = primary
+unary (Unary-F.Minus place primary) = word_at w.Minus place · primary
+unary (Unary-F.Not place primary) = word_at w.Not place · primary
 
--- what a whole expression and each part of one spells
+-- what each part of an expression spells, where its parts spell these pieces
+abbrev pub spelled : ExpressionSteps (List Piece) (List Piece) (List Piece)
+spelled = record {
+  primary = primary;
+  unary = unary;
+  -- product = unary { ( "*" | "/" | MOD ) unary }
+  product = joined multiply_word;
+  -- sum = product { ( "+" | "-" ) product }
+  sum = joined add_word;
+  -- less = sum { ( "<" | ">" | "<=" | ">=" ) sum }
+  comparison = joined compare_word;
+  -- equal = less { ( "=" | "<>" ) less }
+  equality = joined equal_word;
+  -- and = equal { ( AND | "&" ) equal }; `&` is the token AND
+  conjunction = with_between w.And;
+  -- xor = and { XOR and }
+  exclusive = with_between w.Xor;
+  -- expr = xor { OR xor }
+  disjunction = with_between w.Or;
+  -- expr { "," expr }
+  arguments = with_between w.Comma;
+}
+
+-- what a whole expression spells
 unfoldable pub spell_expr : Expr → List Piece
-spell_expr = fold-Expr (List Piece) (List Piece) (List Piece) (List Piece) (List Piece) (List Piece) (List Piece) (List Piece) (List Piece) (List Piece) primary unary arguments comparison conjunction equality exclusive expr product sum
-
--- operands joined by XOR
-unfoldable pub spell_exclusive : Exclusive → List Piece
-spell_exclusive = fold-Exclusive (List Piece) (List Piece) (List Piece) (List Piece) (List Piece) (List Piece) (List Piece) (List Piece) (List Piece) (List Piece) primary unary arguments comparison conjunction equality exclusive expr product sum
-
--- operands joined by AND
-unfoldable pub spell_conjunction : Conjunction → List Piece
-spell_conjunction = fold-Conjunction (List Piece) (List Piece) (List Piece) (List Piece) (List Piece) (List Piece) (List Piece) (List Piece) (List Piece) (List Piece) primary unary arguments comparison conjunction equality exclusive expr product sum
-
--- operands joined by = and <>
-unfoldable pub spell_equality : Equality → List Piece
-spell_equality = fold-Equality (List Piece) (List Piece) (List Piece) (List Piece) (List Piece) (List Piece) (List Piece) (List Piece) (List Piece) (List Piece) primary unary arguments comparison conjunction equality exclusive expr product sum
-
--- operands joined by <, >, <= and >=
-unfoldable pub spell_comparison : Comparison → List Piece
-spell_comparison = fold-Comparison (List Piece) (List Piece) (List Piece) (List Piece) (List Piece) (List Piece) (List Piece) (List Piece) (List Piece) (List Piece) primary unary arguments comparison conjunction equality exclusive expr product sum
-
--- operands joined by + and -
-unfoldable pub spell_sum : Sum → List Piece
-spell_sum = fold-Sum (List Piece) (List Piece) (List Piece) (List Piece) (List Piece) (List Piece) (List Piece) (List Piece) (List Piece) (List Piece) primary unary arguments comparison conjunction equality exclusive expr product sum
-
--- operands joined by *, / and MOD
-unfoldable pub spell_product : Product → List Piece
-spell_product = fold-Product (List Piece) (List Piece) (List Piece) (List Piece) (List Piece) (List Piece) (List Piece) (List Piece) (List Piece) (List Piece) primary unary arguments comparison conjunction equality exclusive expr product sum
-
--- a primary with a sign or NOT, or without
-unfoldable pub spell_unary : Unary → List Piece
-spell_unary = fold-Unary (List Piece) (List Piece) (List Piece) (List Piece) (List Piece) (List Piece) (List Piece) (List Piece) (List Piece) (List Piece) primary unary arguments comparison conjunction equality exclusive expr product sum
-
--- a primary
-unfoldable pub spell_primary : Primary → List Piece
-spell_primary = fold-Primary (List Piece) (List Piece) (List Piece) (List Piece) (List Piece) (List Piece) (List Piece) (List Piece) (List Piece) (List Piece) primary unary arguments comparison conjunction equality exclusive expr product sum
-
--- the arguments of a function
-unfoldable pub spell_arguments : Arguments → List Piece
-spell_arguments = fold-Arguments (List Piece) (List Piece) (List Piece) (List Piece) (List Piece) (List Piece) (List Piece) (List Piece) (List Piece) (List Piece) primary unary arguments comparison conjunction equality exclusive expr product sum
+spell_expr = fold_expr spelled

@@ -4,9 +4,13 @@ pub mod Lexes
 pub mod Listed
 pub mod Integers
 pub mod Pieces
+pub mod ExpressionFolds
+pub mod StatementFolds
+pub mod DeclarationFolds
 pub mod Expressions
 pub mod Declarations
 pub mod Statements
 pub mod Programs
+pub mod Places
 pub mod Tags
 pub mod Nesting

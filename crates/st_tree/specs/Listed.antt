@@ -1,7 +1,8 @@
 -- One or more parts of one sort, as the tree has them: the first, and those behind it.
-use Rattle.std.specs.Prelude.{List, ◌∷◌}
+use Rattle.std.specs.Prelude.{List, ◌∷◌, map}
 use Rattle.st_tree.specs.declared.declaration.PlacedName.{PlacedName}
 use Rattle.st_tree.specs.declared.declaration.Names.{Names}
+use Rattle.st_tree.specs.declared.expression.Operation.{Operation}
 use Rattle.st_tree.specs.declared.statement.Input.{Input}
 use Rattle.st_tree.specs.declared.statement.Inputs.{Inputs}
 
@@ -16,3 +17,7 @@ names_of names = listed names.first names.more
 -- the inputs of a call
 abbrev pub inputs_of : Inputs → List Input
 inputs_of inputs = listed inputs.first inputs.more
+
+-- what stands behind the operators
+abbrev pub operands : {O A : Type 0} → List (Operation O A) → List A
+operands more = map (λ part. part.operand) more
