@@ -12,3 +12,7 @@ pub mod DeclarationLaws
 pub mod StatementLaws
 pub mod ProgramLaws
 pub mod Levels
+pub mod PieceNesting
+pub mod ExpressionNesting
+pub mod StatementNesting
+pub mod ProgramNesting

@@ -15,7 +15,7 @@ mod statements;
 mod tables;
 
 pub use fault::ParseFault;
-pub use laws::one_tree;
+pub use laws::{nests_as_its_tokens, one_tree};
 pub use nesting::first_too_deep;
 pub use parser::parse;
 

@@ -14,3 +14,4 @@ pub mod Programs
 pub mod Places
 pub mod Tags
 pub mod Nesting
+pub mod TreeNesting
