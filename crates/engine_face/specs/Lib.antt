@@ -1,0 +1,6 @@
+pub mod Answers
+pub mod Counting
+pub mod Inner
+pub mod Laws
+pub mod Limits
+pub mod Meaning
