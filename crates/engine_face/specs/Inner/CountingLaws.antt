@@ -11,7 +11,7 @@ use Rattle.chassis.specs.Ranges.{IsWithin, HoldsZero}
 use Rattle.engine_face.specs.declared.refusal.Refusal.TheVariants.{TooLarge, NoMemory}
 use Rattle.engine_face.specs.Limits.{text_limit}
 use Rattle.engine_face.specs.Laws.{IsMeaning, TellStores}
-use Rattle.engine_face.specs.Counting.{counting_refusal, counted, first_pair, counting}
+use Rattle.engine_face.specs.Counting.{counting_refusal, counted, zeros_at, first_pair, counting}
 
 counting_text : (text : List ℕ) → counting_refusal text ≡ None → (0 < length text) × (length text ≤ text_limit)
 counting_text [] h = absurd (cc)
@@ -74,6 +74,11 @@ counting_stores (w ∷ []) h = record {
     same (suc a) false q e = refl
 counting_stores (w ∷ v ∷ words) h = absurd (omega (arith, h))
 
+outputs_fit : (points : List Point) → All HoldsZero points → AllZip IsWithin (outputs_of points) (zeros_at points)
+outputs_fit points h =
+    let outputs : All HoldsZero (outputs_of points) = All-filter (λ (p : Point). not (is_input_kind p.kind)) HoldsZero points h in
+    zeros_fit (outputs_of points) (recursion_from_All HoldsZero (outputs_of points) outputs)
+
 pub counting_lawful : (points : List Point) → All HoldsZero points → IsMeaning points (counting points)
 counting_lawful points h = record {
   some_text = λ text e. (counting_text text e).0;
@@ -84,8 +89,7 @@ counting_lawful points h = record {
   carried_count = λ old d words e f g k. k;
   scan = λ text words inputs dt e f g k l. record {
     count = counted_length words;
-    outputs = zeros_fit (outputs_of points)
-        (recursion_from_All HoldsZero (outputs_of points) (All-filter (λ (p : Point). not (is_input_kind p.kind)) HoldsZero points h));
+    outputs = outputs_fit points h;
     stores = counting_stores words f;
   };
 }
