@@ -1,0 +1,3 @@
+pub mod AlarmTests
+pub mod Histories
+pub mod Notes
