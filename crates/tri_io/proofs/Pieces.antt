@@ -3,8 +3,8 @@ use Rattle.std.proofs.lemmas.List.{length-append, length-take, append_assoc, dro
 use Rattle.std.proofs.Common.{◌≡◌, ℕ, ◌≤◌, ◌+◌, ◌-◌, arith, List, ◌++◌, take, drop, length, Option, Some, None, Ok, ap, ◌∙◌, sym}
 use Rattle.tri_io.specs.declared.source.SourceFailed.{SourceFailed}
 use Rattle.tri_io.specs.declared.sink.SinkFailed.{SinkFailed}
-use Rattle.tri_io.specs.Moves.{Reads, Puts}
-use Rattle.tri_io.specs.Wholes.{TakesFront, PutsAll}
+use Rattle.tri_io.specs.SingleCalls.{Reads, Puts}
+use Rattle.tri_io.specs.WholeStreams.{TakesFront, PutsAll}
 
 -- these bytes were taken from the front of what was left
 abbrev pub Taken : Option (List ℕ) → Option (List ℕ) → List ℕ → Type 0

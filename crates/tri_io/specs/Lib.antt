@@ -1,4 +1,5 @@
-pub mod Counts
-pub mod Moves
-pub mod Wholes
-pub mod Memory
+pub mod FaultCounts
+pub mod SingleCalls
+pub mod WholeStreams
+pub mod WrappedStreams
+pub mod MemoryStreams

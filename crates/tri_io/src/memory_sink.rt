@@ -19,7 +19,7 @@ pub struct MemorySink {
 
 impl Model for MemorySink {
     ghost use Rattle.std.specs.Prelude.{◌<◌, ◌≤◌};
-    ghost use Rattle.tri_io.specs.Memory.{SinkValue};
+    ghost use Rattle.tri_io.specs.MemoryStreams.{SinkValue};
 
     ghost Value = { SinkValue };
 
@@ -40,7 +40,14 @@ impl MemorySink {
     /// the calls whose numbers, from 1, are listed fail.
     pub fn new(alloc: Global, piece: usize, failing: Vec<u64>) -> MemorySink
         requires { 0 < piece }
-        ensures { result ≡ record { taken = []; spare = 0; piece = piece; failing = failing.items; calls = 0; faults = 0 } }
+        ensures { result ≡ record {
+          taken = [];
+          spare = 0;
+          piece = piece;
+          failing = failing.items;
+          calls = 0;
+          faults = 0;
+        } }
     {
         MemorySink {
             bytes: Text::new(alloc),
@@ -75,9 +82,9 @@ impl MemorySink {
 impl Sink for MemorySink {
     ghost use Rattle.std.specs.Prelude.{◌≡◌, ◌<◌, ◌≤◌, Some, length, IfOk};
     ghost use Rattle.std.specs.Result.{result_ok};
-    ghost use Rattle.tri_io.specs.Counts.{HasCause};
-    ghost use Rattle.tri_io.specs.Memory.{moved_by_put, after_put};
-    ghost use Rattle.tri_io.specs.Moves.{Puts};
+    ghost use Rattle.tri_io.specs.FaultCounts.{HasCause};
+    ghost use Rattle.tri_io.specs.MemoryStreams.{moved_by_put, after_put};
+    ghost use Rattle.tri_io.specs.SingleCalls.{Puts};
 
     ghost taken = { λ s. Some s.taken };
 

@@ -18,7 +18,7 @@ pub struct MemorySource {
 
 impl Model for MemorySource {
     ghost use Rattle.std.specs.Prelude.{drop, length, ◌<◌, ◌≤◌};
-    ghost use Rattle.tri_io.specs.Memory.{SourceValue};
+    ghost use Rattle.tri_io.specs.MemoryStreams.{SourceValue};
 
     ghost Value = { SourceValue };
 
@@ -38,7 +38,13 @@ impl MemorySource {
     /// numbers, from 1, are listed fail.
     pub fn new(bytes: Text, piece: usize, failing: Vec<u64>) -> MemorySource
         requires { 0 < piece }
-        ensures { result ≡ record { left = bytes.list; piece = piece; failing = failing.items; calls = 0; faults = 0 } }
+        ensures { result ≡ record {
+          left = bytes.list;
+          piece = piece;
+          failing = failing.items;
+          calls = 0;
+          faults = 0;
+        } }
     {
         MemorySource {
             bytes,
@@ -54,9 +60,9 @@ impl MemorySource {
 impl Source for MemorySource {
     ghost use Rattle.std.specs.Prelude.{◌≡◌, ◌≤◌, ◌++◌, Some, length, take, drop, IfOk};
     ghost use Rattle.std.specs.Result.{result_ok};
-    ghost use Rattle.tri_io.specs.Counts.{HasCause};
-    ghost use Rattle.tri_io.specs.Memory.{moved_by_read, after_read};
-    ghost use Rattle.tri_io.specs.Moves.{Reads};
+    ghost use Rattle.tri_io.specs.FaultCounts.{HasCause};
+    ghost use Rattle.tri_io.specs.MemoryStreams.{moved_by_read, after_read};
+    ghost use Rattle.tri_io.specs.SingleCalls.{Reads};
 
     ghost left = { λ s. Some s.left };
 

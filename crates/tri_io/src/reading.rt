@@ -1,7 +1,8 @@
-ghost use Rattle.std.specs.Prelude.{◌≤◌, ◌<◌, length, IfOk, IsErr, IfSome, IsErrOf};
-ghost use Rattle.tri_io.specs.Counts.{Rose};
-ghost use Rattle.tri_io.specs.Wholes.{TakesAll, TakesPast, TakesFront};
+ghost use Rattle.std.specs.Prelude.{◌≡◌, ◌⊎◌, ◌≤◌, ◌<◌, length, IfOk, IsErr, IfSome, IsErrOf};
+ghost use Rattle.tri_io.specs.FaultCounts.{Rose};
+ghost use Rattle.tri_io.specs.WholeStreams.{TakesAll, TakesPast, TakesFront};
 
+use crate::piece::PIECE;
 use crate::source::Source;
 use std::alloc::Global;
 use thiserror::Error;
@@ -20,20 +21,25 @@ pub enum ReadAll {
     NoMemory,
 }
 
-// How many bytes a read asks for at most.
-const PIECE: usize = 4096;
-
 /// All bytes up to the end of the source, which are at most `limit`. It takes no more than
-/// `limit + 1` bytes from the source, in pieces of up to 4,096. One read that fails ends it.
+/// `limit + 1` bytes from the source, in pieces of up to 4,096. The first read that fails ends it.
 pub fn read_all<S: Source>(alloc: Global, source: &mut S, limit: usize) -> Result<Text, ReadAll>
-    ensures all { IfOk result (λ text. TakesAll (S.left source.old) (S.left source.new) text.list) }
+    ensures all { IfOk result (λ text.
+        TakesAll (S.left source.old) (S.left source.new) text.list) }
     ensures within { IfOk result (λ text. length text.list ≤ limit) }
-    ensures too_long { IsErrOf result ReadAll.TooLong → TakesPast limit (S.left source.old) (S.left source.new) }
-    ensures past_limit { IfSome (S.left source.old) (λ bytes. limit < length bytes → IsErr result) }
-    ensures failed { IsErrOf result ReadAll.Failed → Rose (S.faults source.old) (S.faults source.new) }
-    ensures front_at_failed { IsErrOf result ReadAll.Failed → TakesFront limit (S.left source.old) (S.left source.new) }
-    ensures front_at_no_memory { IsErrOf result ReadAll.NoMemory → TakesFront limit (S.left source.old) (S.left source.new) }
+    ensures too_long { IsErrOf result ReadAll.TooLong
+        → TakesPast limit (S.left source.old) (S.left source.new) }
+    ensures past_limit { IfSome (S.left source.old) (λ bytes.
+        limit < length bytes → IsErr result) }
+    ensures failed { IsErrOf result ReadAll.Failed
+        → Rose (S.faults source.old) (S.faults source.new) }
+    ensures front_at_failed { IsErrOf result ReadAll.Failed
+        → TakesFront limit (S.left source.old) (S.left source.new) }
+    ensures front_at_no_memory { IsErrOf result ReadAll.NoMemory
+        → TakesFront limit (S.left source.old) (S.left source.new) }
     ensures never_falls { S.faults source.old ≤ S.faults source.new }
+    ensures steady { IsErrOf result ReadAll.Failed
+        ⊎ (S.faults source.new ≡ S.faults source.old) }
 {
     let mut text = Text::new(alloc);
     let mut buffer = [0; PIECE];

@@ -5,8 +5,8 @@ pub struct SinkFailed;
 /// Where bytes go to the outside.
 pub trait Sink {
     ghost use Rattle.std.specs.Prelude.{ℕ, List, Option, ◌<◌, ◌≤◌, length, IfOk};
-    ghost use Rattle.tri_io.specs.Counts.{HasCause};
-    ghost use Rattle.tri_io.specs.Moves.{Puts};
+    ghost use Rattle.tri_io.specs.FaultCounts.{HasCause};
+    ghost use Rattle.tri_io.specs.SingleCalls.{Puts};
 
     /// The bytes taken so far, where the sink tells them.
     ghost taken: { Self → Option (List ℕ) };

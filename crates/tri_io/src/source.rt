@@ -5,8 +5,8 @@ pub struct SourceFailed;
 /// Bytes from outside.
 pub trait Source {
     ghost use Rattle.std.specs.Prelude.{ℕ, List, Option, ◌≤◌, length, IfOk};
-    ghost use Rattle.tri_io.specs.Counts.{HasCause};
-    ghost use Rattle.tri_io.specs.Moves.{Reads};
+    ghost use Rattle.tri_io.specs.FaultCounts.{HasCause};
+    ghost use Rattle.tri_io.specs.SingleCalls.{Reads};
 
     /// The bytes left, where the source tells them.
     ghost left: { Self → Option (List ℕ) };

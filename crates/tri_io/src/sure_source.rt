@@ -33,8 +33,8 @@ impl SureSource {
 
 impl Source for SureSource {
     ghost use Rattle.std.specs.Prelude.{◌≡◌, ◌≤◌, Some, Ok, length, min, drop, IfOk};
-    ghost use Rattle.tri_io.specs.Counts.{HasCause};
-    ghost use Rattle.tri_io.specs.Moves.{Reads};
+    ghost use Rattle.tri_io.specs.FaultCounts.{HasCause};
+    ghost use Rattle.tri_io.specs.SingleCalls.{Reads};
 
     ghost left = { λ s. Some s };
 

@@ -1,5 +1,6 @@
 use super::*;
 use std::alloc::Global;
+use std::io::{self, Read, Write};
 use std::test::Fail;
 use tri_base::{NoMemory, Text, push_bytes};
 
@@ -88,6 +89,58 @@ fn bytes_are_offered_in_pieces_of_4096_of_the_whole(rt: HostRuntime) -> Result<(
     assert_eq!(rt; sink.sizes.as_slice(), want.as_slice());
     write_all(&mut sink, b"")?;
     assert_eq!(rt; sink.sizes.len(), 5);
+    Ok(())
+}
+
+/// A reader and a writer that moves up to 16 bytes a call, and fails at one of its calls.
+#[derive(Drop)]
+struct Flaky {
+    calls: u64,
+    failing: u64,
+}
+
+impl Flaky {
+    /// How many of so many bytes the next call moves.
+    fn step(&mut self, count: usize) -> io::Result<usize> {
+        self.calls = self.calls.saturating_add(1);
+        if self.calls == self.failing {
+            return Err(io::Error::from(io::ErrorKind::BrokenPipe));
+        }
+        Ok(count.min(16))
+    }
+}
+
+impl Read for Flaky {
+    fn read(&mut self, buffer: &mut [u8]) -> io::Result<usize> {
+        if self.calls > 2 {
+            return Ok(0);
+        }
+        self.step(buffer.len())
+    }
+}
+
+impl Write for Flaky {
+    fn write(&mut self, bytes: &[u8]) -> io::Result<usize> {
+        self.step(bytes.len())
+    }
+
+    fn flush(&mut self) -> io::Result<()> {
+        Ok(())
+    }
+}
+
+#[test]
+fn a_stream_that_fails_in_between_is_neither_whole_nor_at_its_end(
+    rt: HostRuntime,
+) -> Result<(), Fail> {
+    for failing in [1, 2, 3, 4] {
+        let mut source = ReaderSource::new(Flaky { calls: 0, failing });
+        let read = read_all(rt.alloc(), &mut source, 100);
+        assert!(rt; read.is_ok() == (failing > 3), "call {failing}");
+        let mut sink = WriterSink::new(Flaky { calls: 0, failing });
+        let written = write_all(&mut sink, POINTS);
+        assert!(rt; written.is_ok() == (failing > 3), "call {failing}");
+    }
     Ok(())
 }
 

@@ -1,11 +1,9 @@
 ghost use Rattle.std.specs.Prelude.{OnOk, OnErr};
-ghost use Rattle.tri_io.specs.Counts.{HasCause};
-ghost use Rattle.tri_io.specs.Wholes.{PutsAll, PutsSome};
+ghost use Rattle.tri_io.specs.FaultCounts.{HasCause};
+ghost use Rattle.tri_io.specs.WholeStreams.{PutsAll, PutsSome};
 
+use crate::piece::PIECE;
 use crate::sink::{Sink, SinkFailed};
-
-// Bytes to be written are offered in pieces of so many.
-const PIECE: usize = 4096;
 
 /// Puts all the bytes, in pieces of 4,096 of the whole, of which the last may be shorter. A sink
 /// that takes less of a piece is offered the rest of it, and no empty piece is offered. It takes

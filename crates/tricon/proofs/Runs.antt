@@ -1,16 +1,18 @@
 -- What a run comes to, over plain values.
-use Rattle.std.proofs.Common.{◌≡◌, ℕ, ◌≤◌, ◌<◌, Bool, true, List, [], ◌∷◌, ◌++◌, length, get_or, Option, Some, None, refl, sym, ap, ◌∙◌, subst, arith, ◌⊎◌, inl, inr, codes}
+use Rattle.std.proofs.Common.{◌≡◌, ℕ, ◌≤◌, ◌<◌, Bool, true, List, [], ◌∷◌, ◌++◌, length, drop, get_or, Option, Some, None, refl, sym, ap, ◌∙◌, subst, arith, ◌⊎◌, inl, inr, codes}
+use Rattle.std.proofs.lemmas.List.{drop_all}
 use Rattle.std.specs.Bool.{Decides}
 use Rattle.tri_base.specs.Rows.{TextValue}
-use Rattle.tri_io.specs.Counts.{Rose}
-use Rattle.tri_io.specs.Wholes.{TakesAll, TakesPast}
+use Rattle.tri_io.specs.FaultCounts.{Rose}
+use Rattle.tri_io.specs.WholeStreams.{TakesAll, TakesPast, TakesFront}
 use Rattle.tri_base.specs.declared.point.Point.{Point}
 use Rattle.plant_script.specs.ScriptText.{script_of}
 use Rattle.plant_script.specs.ScriptValue.{ReadScript}
 use Rattle.tricon.specs.SmallProgram.{IsSmall}
-use Rattle.tricon.specs.SmallMeaning.{Wiring, wiring_of, Means, MeansNothing}
+use Rattle.tricon.specs.SmallMeaning.{Wiring, wiring_of}
+use Rattle.tricon.specs.inner.SmallWired.{Means, MeansNothing}
 use Rattle.tricon.specs.SoloReport.{IsSoloReport, solo_report}
-use Rattle.tricon.specs.Answers.{BuildsNone, IsSolo, Run, Says, script_limit}
+use Rattle.tricon.specs.SoloRun.{BuildsNone, IsSolo, Run, Says, script_limit}
 use Rattle.tricon.specs.declared.status.Status.{Status}
 use Rattle.tricon.specs.declared.status.Status.TheVariants.{Done, Usage, Refused, ReadFault, WriteFault, NoMemory, ScriptTooLong}
 use Rattle.tricon.specs.declared.status.RefusedCause.TheVariants.{NoScript, NoProgram}
@@ -57,6 +59,14 @@ past : (held left : Option (List ℕ)) (bytes : List ℕ) → held ≡ Some byte
 past None left bytes e h = absurd (cc)
 past (Some x) None bytes e h = absurd h
 past (Some x) (Some y) bytes e h = let same : x ≡ bytes = cc in omega (arith, h.0, ap length same)
+
+-- all bytes are a front
+pub all_are_a_front : (limit : ℕ) (held left : Option (List ℕ)) (bytes : List ℕ) → TakesAll held left bytes → length bytes ≤ limit → TakesFront limit held left
+all_are_a_front limit None None bytes h within = tt
+all_are_a_front limit (Some x) None bytes h within = absurd h
+all_are_a_front limit None (Some y) bytes h within = absurd h
+all_are_a_front limit (Some x) (Some y) bytes h within =
+    (length x, omega (arith, ap length h.0, within), omega arith, h.1 ∙ sym (drop_all (length x) x (omega arith)))
 
 one_script : (bytes : List ℕ) (s t : ReadScript) → script_of bytes ≡ Some s → script_of bytes ≡ Some t → s ≡ t
 one_script bytes s t h k = let e : ◌≡◌ {A = Option ReadScript} (Some s) (Some t) = sym h ∙ k in cc

@@ -6,9 +6,9 @@ use Rattle.std.proofs.lemmas.Slice.Eq.{bytes_eq-Decides}
 use Rattle.std.proofs.lemmas.List.Quantifiers.{all_pairs_push}
 use Rattle.tri_base.specs.declared.point.Point.{Point}
 use Rattle.chassis.specs.Points.{place_of}
-use Rattle.tricon.specs.SmallProgram.{SmallProgram, IsSmall, IsTag, IsAssignment, IsIdentifier, capitals_of, spelled, separated, assignment_of, tag_name, name_at, is_at, is_discrete, is_output_kind}
+use Rattle.tricon.specs.SmallProgram.{SmallProgram, text_limit, IsSmall, IsTag, IsAssignment, IsIdentifier, capitals_of, spelled, separated, assignment_of, tag_name, name_at, is_at, is_discrete, is_output_kind}
 use Rattle.tricon.specs.SmallMeaning.{number_of}
-use Rattle.tricon.specs.SmallReading.{keyword, identifier, identifier_of, head, end_of_block, place_named, with_tag, tags_from, tag_named, output_named, statement, statements_from, program_of}
+use Rattle.tricon.specs.inner.SmallReading.{keyword, identifier, identifier_of, head, end_of_block, place_named, with_tag, tags_from, tag_named, output_named, statement, statements_from, program_of}
 use Rattle.tricon.proofs.SmallNames.{identifier_is}
 use Rattle.tricon.proofs.SmallTags.{number_is, none_passes}
 use Rattle.tricon.proofs.SmallPoints.{place_is}
@@ -206,7 +206,7 @@ pieces_spelled points name tags assignments pieces block rest body begins declar
     ∙ ap (λ l. separated (map (name_at points) tags) ++ codes ":" ∷ l) (ends ∙ ap (λ l. codes "BOOL" ∷ codes ";" ∷ codes "END_VAR" ∷ l) done))
 
 -- parts that were read make a small program
-parts_small : (points : List Point) (text name : List ℕ) (tags : List ℕ) (assignments : List (ℕ × ℕ)) (block rest body : List (List ℕ)) → length text ≤ 16384 → IsIdentifier name
+parts_small : (points : List Point) (text name : List ℕ) (tags : List ℕ) (assignments : List (ℕ × ℕ)) (block rest body : List (List ℕ)) → length text ≤ text_limit → IsIdentifier name
     → capitals_of text ≡ codes "PROGRAM" ∷ name ∷ codes "VAR_EXTERNAL" ∷ block → TagsRead points [] tags block rest → rest ≡ codes "BOOL" ∷ codes ";" ∷ codes "END_VAR" ∷ body → StatementsRead points tags [] assignments body
     → IsSmall points text (record { tags = tags; assignments = assignments })
 parts_small points text name tags assignments block rest body short identifier begins t ends s =
@@ -221,7 +221,7 @@ parts_small points text name tags assignments block rest body short identifier b
       assigned = subst (All (IsAssignment points tags)) (sym s.all_is) s.each;
     }
 
-pub program_read : (points : List Point) (text : List ℕ) (p : SmallProgram) → length text ≤ 16384 → program_of points (capitals_of text) ≡ Some p → IsSmall points text p
+pub program_read : (points : List Point) (text : List ℕ) (p : SmallProgram) → length text ≤ text_limit → program_of points (capitals_of text) ≡ Some p → IsSmall points text p
 program_read points text p short h =
     let (block, one, k) = and_then_some (λ block. option_and_then (λ (x : List ℕ × List (List ℕ)). option_and_then (λ body. option_and_then (λ assignments. Some (record { tags = x.0; assignments = assignments })) (statements_from points x.0 [] body)) (end_of_block x.1)) (tags_from points [] block)) (head (capitals_of text)) p h in
     let (x, two, m) = and_then_some (λ (x : List ℕ × List (List ℕ)). option_and_then (λ body. option_and_then (λ assignments. Some (record { tags = x.0; assignments = assignments })) (statements_from points x.0 [] body)) (end_of_block x.1)) (tags_from points [] block) p k in

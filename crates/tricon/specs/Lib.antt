@@ -1,11 +1,8 @@
 pub mod SmallProgram
 pub mod SmallMeaning
-pub mod SmallReading
-pub mod SmallBody
 pub mod VotedInputs
 pub mod SingleController
 pub mod SoloReport
-pub mod LegTapes
 pub mod Statuses
-pub mod Plays
-pub mod Answers
+pub mod SoloRun
+pub mod inner

@@ -7,7 +7,8 @@ use Rattle.tricon.specs.VotedInputs.{voted_inputs}
 -- its memory after so many scans
 abbrev pub memory_at : ScriptValue → Wiring → ℕ → List ℤ
 memory_at script program zero = first_memory program
-memory_at script program (suc scans) = memory_after program (memory_at script program scans) (voted_inputs script (suc scans))
+memory_at script program (suc scans) =
+    memory_after program (memory_at script program scans) (voted_inputs script (suc scans))
 
 -- its outputs at a scan
 abbrev pub outputs_at : ScriptValue → Wiring → ℕ → List ℤ

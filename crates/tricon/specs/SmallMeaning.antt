@@ -8,7 +8,8 @@ use Rattle.tricon.specs.SmallProgram.{SmallProgram, IsSmall, is_at, is_output_ki
 
 -- where a point's value stands among the inputs, which stand in the chassis' order; None where it is no input
 abbrev pub source_of : List Point → ℕ → Option ℕ
-source_of points place = if is_at is_input_kind points place then Some (length (inputs_of (take place points))) else None
+source_of points place =
+    if is_at is_input_kind points place then Some (length (inputs_of (take place points))) else None
 
 -- the places of the outputs in the chassis
 abbrev pub output_places : List Point → List ℕ
@@ -27,6 +28,7 @@ pub record Wiring : Type 0 where
   pub assignments : List (ℕ × ℕ)
   pub shown : List (Option ℕ)
 
+-- a program over the points of a chassis, as a scan sees it
 abbrev pub wiring_of : List Point → SmallProgram → Wiring
 wiring_of points p = record {
   inputs = length (inputs_of points);
@@ -52,37 +54,19 @@ loaded (source ∷ sources) inputs (word ∷ memory) = word_at inputs source wor
 
 -- the assignments in order: each sets one tag to what the other holds then
 abbrev pub assigned : List (ℕ × ℕ) → List ℤ → List ℤ
-assigned assignments memory = fold (λ words a. slice_set words a.0 (slice_index_or words a.1 (pos 0))) memory assignments
+assigned assignments memory =
+    fold (λ words a. slice_set words a.0 (slice_index_or words a.1 (pos 0))) memory assignments
 
 -- each output shows its tag, or 0 where it has none
 abbrev pub outputs_of : List (Option ℕ) → List ℤ → List ℤ
 outputs_of shown memory = map (λ tag. word_at memory tag (pos 0)) shown
 
--- the memory and the outputs after a scan
-pub record Scanned : Type 0 where
-  pub memory : List ℤ
-  pub outputs : List ℤ
-
+-- a program's memory after a scan: the inputs are taken, then the assignments are made
 abbrev pub memory_after : Wiring → List ℤ → List ℤ → List ℤ
 memory_after w memory inputs = assigned w.assignments (loaded w.sources inputs memory)
 
-abbrev pub scan_of : Wiring → List ℤ → List ℤ → Scanned
-scan_of w memory inputs = record { memory = memory_after w memory inputs; outputs = outputs_of w.shown (memory_after w memory inputs) }
-
--- each number that a program keeps is within what it is a place of
-pub record IsWired (w : Wiring) : Type 0 where
-  pub sources : All (λ source. IfSome source (λ place. place < w.inputs)) w.sources
-  pub assignments : All (λ a. (a.0 < length w.sources) × (a.1 < length w.sources)) w.assignments
-  pub shown : All (λ tag. IfSome tag (λ number. number < length w.sources)) w.shown
-
--- a text spells a program over these points, and this is it as a scan sees it
-abbrev pub Means : List Point → List ℕ → Wiring → Type 0
-Means points text w = (p : SmallProgram) × IsSmall points text p × (w ≡ wiring_of points p)
-
--- a text spells no program
-abbrev pub MeansNothing : List Point → List ℕ → Type 0
-MeansNothing points text = (p : SmallProgram) → ¬ IsSmall points text p
-
 -- no text spells two programs over points of distinct names
 abbrev pub OneProgram : Type 0
-OneProgram = (points : List Point) (text : List ℕ) (p q : SmallProgram) → AllPairs (λ (a b : Point). a.name ≢ b.name) points → IsSmall points text p → IsSmall points text q → p ≡ q
+OneProgram =
+    (points : List Point) (text : List ℕ) (p q : SmallProgram) → AllPairs (λ (a b : Point). a.name ≢ b.name) points
+    → IsSmall points text p → IsSmall points text q → p ≡ q

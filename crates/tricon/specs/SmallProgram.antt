@@ -1,5 +1,6 @@
 -- The small programs: one list of BOOL points, and assignments of one to another.
--- They are a part of Structured Text (IEC 61131-3:2013, 7.3), and mean what they mean there.
+-- They are a part of Structured Text (IEC 61131-3:2013, 7.3), and mean what they mean there. Own rules: the limit of a
+-- text, that the one list of external tags is BOOL, and which words are reserved beyond the standard's.
 use Rattle.std.specs.Prelude.{◌≡◌, ◌≢◌, ℕ, zero, suc, ◌<◌, ◌≤◌, Bool, true, false, List, [], ◌∷◌, ◌++◌, length, map, Some, codes, ◌==◌, ◌&&◌, ◌||◌, if◌then◌else◌, slice_index, All, AllPairs, bytes_eq, not}
 use Rattle.std.specs.List.{flat_map, list_any}
 use Rattle.std.specs.Char.{to_ascii_uppercase}
@@ -9,14 +10,37 @@ use Rattle.tri_base.specs.declared.point.PointKind.{PointKind}
 use Rattle.tri_base.specs.declared.point.PointKind.TheVariants.{Di, Ai, Do, Ao}
 use Rattle.chassis.specs.Points.{is_input_kind}
 
--- space, tab, line feed, carriage return
+-- the bytes that have a name here
+abbrev pub space : ℕ
+space = 32
+
+abbrev pub tab : ℕ
+tab = 9
+
+abbrev pub line_feed : ℕ
+line_feed = 10
+
+abbrev pub carriage_return : ℕ
+carriage_return = 13
+
+abbrev pub colon : ℕ
+colon = 58
+
+abbrev pub equals : ℕ
+equals = 61
+
+-- white space, which separates the pieces of a text
 abbrev pub is_white : ℕ → Bool
-is_white b = b == 32 || b == 9 || b == 10 || b == 13
+is_white b = b == space || b == tab || b == line_feed || b == carriage_return
+
+-- a program's text has at most so many bytes
+abbrev pub text_limit : ℕ
+text_limit = 16384
 
 -- whether a byte and the one behind it stand in one piece: two bytes of one word, or `:=`
 abbrev pub joins : ℕ → List ℕ → Bool
 joins b [] = false
-joins b (c ∷ cs) = is_word_byte b && is_word_byte c || b == 58 && c == 61
+joins b (c ∷ cs) = is_word_byte b && is_word_byte c || b == colon && c == equals
 
 -- the pieces with one byte more at the front of the first
 abbrev pub onto : ℕ → List (List ℕ) → List (List ℕ)
@@ -26,7 +50,8 @@ onto b (piece ∷ pieces) = (b ∷ piece) ∷ pieces
 -- the pieces of a text: words, `:=` and single bytes, with white space between them or not
 abbrev pub pieces_of : List ℕ → List (List ℕ)
 pieces_of [] = []
-pieces_of (b ∷ bs) = if is_white b then pieces_of bs else (if joins b bs then onto b (pieces_of bs) else (b ∷ []) ∷ pieces_of bs)
+pieces_of (b ∷ bs) =
+    if is_white b then pieces_of bs else (if joins b bs then onto b (pieces_of bs) else (b ∷ []) ∷ pieces_of bs)
 
 -- a text's pieces, its letters as capitals: letters' case doesn't matter
 abbrev pub capitals_of : List ℕ → List (List ℕ)
@@ -41,9 +66,11 @@ reserved =
     ∷ codes "FOR" ∷ codes "TO" ∷ codes "BY" ∷ codes "DO" ∷ codes "END_FOR" ∷ codes "EXIT" ∷ codes "RETURN"
     ∷ codes "AND" ∷ codes "OR" ∷ codes "XOR" ∷ codes "NOT" ∷ codes "MOD" ∷ codes "TRUE" ∷ codes "FALSE"
     ∷ codes "ARRAY" ∷ codes "BOOL" ∷ codes "INT" ∷ codes "DINT"
-    ∷ codes "R_TRIG" ∷ codes "F_TRIG" ∷ codes "SR" ∷ codes "RS" ∷ codes "CTU" ∷ codes "CTD" ∷ codes "TON" ∷ codes "TOF" ∷ codes "TP"
-    ∷ codes "ABS" ∷ codes "MIN" ∷ codes "MAX" ∷ codes "LIMIT" ∷ codes "SEL" ∷ codes "INT_TO_DINT" ∷ codes "DINT_TO_INT" ∷ []
+    ∷ codes "R_TRIG" ∷ codes "F_TRIG" ∷ codes "SR" ∷ codes "RS" ∷ codes "CTU" ∷ codes "CTD"
+    ∷ codes "TON" ∷ codes "TOF" ∷ codes "TP" ∷ codes "ABS" ∷ codes "MIN" ∷ codes "MAX" ∷ codes "LIMIT" ∷ codes "SEL"
+    ∷ codes "INT_TO_DINT" ∷ codes "DINT_TO_INT" ∷ []
 
+-- whether a word in capitals is one of them
 abbrev pub is_reserved : List ℕ → Bool
 is_reserved word = list_any (λ other. bytes_eq other word) reserved
 
@@ -70,12 +97,14 @@ is_at test [] place = false
 is_at test (point ∷ points) zero = test point.kind
 is_at test (point ∷ points) (suc place) = is_at test points place
 
+-- whether a point of a kind is discrete
 abbrev pub is_discrete : PointKind → Bool
 is_discrete Di = true
 is_discrete Ai = false
 is_discrete Do = true
 is_discrete Ao = false
 
+-- whether a point of a kind is an output
 abbrev pub is_output_kind : PointKind → Bool
 is_output_kind kind = not (is_input_kind kind)
 
@@ -107,12 +136,13 @@ assignment_of left right = left ∷ codes ":=" ∷ right ∷ codes ";" ∷ []
 abbrev pub spelled : List Point → List ℕ → SmallProgram → List (List ℕ)
 spelled points name p =
     codes "PROGRAM" ∷ name ∷ codes "VAR_EXTERNAL" ∷ (separated (map (name_at points) p.tags)
-    ++ codes ":" ∷ codes "BOOL" ∷ codes ";" ∷ codes "END_VAR" ∷ (flat_map (λ a. assignment_of (tag_name points p.tags a.0) (tag_name points p.tags a.1)) p.assignments
+    ++ codes ":" ∷ codes "BOOL" ∷ codes ";" ∷ codes "END_VAR"
+        ∷ (flat_map (λ a. assignment_of (tag_name points p.tags a.0) (tag_name points p.tags a.1)) p.assignments
     ++ codes "END_PROGRAM" ∷ []))
 
 -- a text spells a small program over the points of a chassis
 pub record IsSmall (points : List Point) (text : List ℕ) (p : SmallProgram) : Type 0 where
-  pub short : length text ≤ 16384
+  pub short : length text ≤ text_limit
   pub spelling : (name : List ℕ) × IsIdentifier name × (capitals_of text ≡ spelled points name p)
   pub some : 0 < length p.tags
   pub tags : All (IsTag points) p.tags

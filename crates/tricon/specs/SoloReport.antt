@@ -4,23 +4,30 @@ use Rattle.std.specs.List.{flat_map, range_with_len}
 use Rattle.std.specs.Fmt.{signed_decimal}
 use Rattle.plant_script.specs.ScriptValue.{ScriptValue, ReadScript}
 use Rattle.plant_script.specs.ScriptText.{script_of}
-use Rattle.tricon.specs.SmallProgram.{SmallProgram, IsSmall}
+use Rattle.tricon.specs.SmallProgram.{SmallProgram, IsSmall, space, line_feed}
 use Rattle.tricon.specs.SmallMeaning.{Wiring, wiring_of}
 use Rattle.tricon.specs.VotedInputs.{voted_inputs}
 use Rattle.tricon.specs.SingleController.{memory_at, outputs_at}
 
--- a space (byte 32) and the shortest decimal text of a number
+-- a space and the shortest decimal text of a number
 abbrev pub spaced : ℤ → List ℕ
-spaced number = 32 ∷ signed_decimal number
+spaced number = space ∷ signed_decimal number
 
 -- a line: a word, then numbers, then a line feed
 abbrev pub line : List ℕ → List ℤ → List ℕ
-line word numbers = word ++ (flat_map spaced numbers ++ 10 ∷ [])
+line word numbers = word ++ (flat_map spaced numbers ++ line_feed ∷ [])
 
--- a scan: its number; the voted scan time and inputs; the outputs; and whether arithmetic left its range
+-- the scan time of each scan, in milliseconds
+abbrev pub scan_time : ℕ
+scan_time = 100
+
+-- a scan: its number, from 1; the voted scan time and inputs; the outputs; and whether arithmetic left its range
 abbrev pub scan_text : ℕ → List ℤ → List ℤ → List ℕ
-scan_text scan inputs outputs = line (codes "SCAN") (pos scan ∷ []) ++ (line (codes "IN") (pos 100 ∷ inputs) ++ (line (codes "OUT") outputs ++ line (codes "ARITH") (pos 0 ∷ [])))
+scan_text scan inputs outputs =
+    line (codes "SCAN") (pos scan ∷ [])
+    ++ (line (codes "IN") (pos scan_time ∷ inputs) ++ (line (codes "OUT") outputs ++ line (codes "ARITH") (pos 0 ∷ [])))
 
+-- the same of one of a script's scans
 abbrev pub scan_of_report : ScriptValue → Wiring → ℕ → List ℕ
 scan_of_report script program scan = scan_text scan (voted_inputs script scan) (outputs_at script program scan)
 

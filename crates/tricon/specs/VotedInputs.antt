@@ -10,7 +10,7 @@ use Rattle.plant_script.specs.Readings.{shown_readings}
 abbrev pub is_on : ℤ → Bool
 is_on reading = not (int_eq reading (pos 0))
 
--- two out of three
+-- the vote of three readings, two out of three: 1 for TRUE and 0 for FALSE
 abbrev pub voted : ℤ → ℤ → ℤ → ℤ
 voted a b c = if majority (is_on a ∷ is_on b ∷ is_on c ∷ []) then pos 1 else pos 0
 
@@ -23,4 +23,5 @@ votes (a ∷ of_a) (b ∷ of_b) [] = []
 
 -- the voted inputs of a scan, in order of the chassis
 abbrev pub voted_inputs : ScriptValue → ℕ → List ℤ
-voted_inputs script scan = votes (shown_readings script A scan) (shown_readings script B scan) (shown_readings script C scan)
+voted_inputs script scan =
+    votes (shown_readings script A scan) (shown_readings script B scan) (shown_readings script C scan)

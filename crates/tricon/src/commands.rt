@@ -1,8 +1,8 @@
-ghost use Rattle.std.specs.Prelude.{◌≡◌, ◌<◌, ◌≤◌, ◌⊎◌, ◌↔◌, IsTrue, List, ℕ, Some, length};
-ghost use Rattle.tri_io.specs.Counts.{Rose};
+ghost use Rattle.std.specs.Prelude.{◌≡◌, ◌≢◌, ◌<◌, ◌≤◌, ◌⊎◌, ◌↔◌, IsTrue, List, ℕ, Some, length};
+ghost use Rattle.tri_io.specs.FaultCounts.{Rose};
 ghost use Rattle.tricon.specs.SoloReport.{IsSoloReport};
-ghost use Rattle.tricon.specs.Answers.{IsSolo, Says, IsSilent, script_limit};
-ghost use Rattle.tricon.specs.Plays.{Plays};
+ghost use Rattle.tricon.specs.SoloRun.{IsSolo, Says, IsSilent, script_limit};
+ghost use Rattle.tricon.specs.inner.Plays.{Plays};
 
 use crate::small::read_small::read_small;
 use crate::solo::push_report;
@@ -39,13 +39,21 @@ pub fn desk<S: Source, K: Sink>(
       written_before = K.faults sink.old;
       written_after = K.faults sink.new;
     }) result }
+    // No fault is passed over: each count is as it was, except where its fault is the answer.
+    ensures source_steady { result ≢ Status.ReadFault → S.faults source.new ≡ S.faults source.old }
+    ensures sink_steady { result ≢ Status.WriteFault → K.faults sink.new ≡ K.faults sink.old }
+    ensures source_never_falls { S.faults source.old ≤ S.faults source.new }
+    ensures sink_never_falls { K.faults sink.old ≤ K.faults sink.new }
     // A script above the limit is neither played nor refused for what it says.
     ensures too_long { (bytes : List ℕ)
         → IsSolo words.now → S.left source.old ≡ Some bytes → script_limit < length bytes
-        → (result ≡ Status.ScriptTooLong) ⊎ ((result ≡ Status.ReadFault) ⊎ (result ≡ Status.NoMemory)) }
-    // A script within the limits, whose TEXT is a program, is played, unless source, sink or memory fail.
+        → (result ≡ Status.ScriptTooLong)
+            ⊎ ((result ≡ Status.ReadFault) ⊎ (result ≡ Status.NoMemory)) }
+    // A script within the limits whose TEXT is a program is played, unless source, sink or memory
+    // fail.
     ensures complete { (bytes report : List ℕ)
-        → IsSolo words.now → S.left source.old ≡ Some bytes → length bytes ≤ script_limit → IsSoloReport bytes report
+        → IsSolo words.now → S.left source.old ≡ Some bytes
+        → length bytes ≤ script_limit → IsSoloReport bytes report
         → (Rose (S.faults source.old) (S.faults source.new) → ⊥)
         → (Rose (K.faults sink.old) (K.faults sink.new) → ⊥)
         → (result ≡ Status.Done) ⊎ (result ≡ Status.NoMemory) }
@@ -57,6 +65,7 @@ pub fn desk<S: Source, K: Sink>(
 }
 
 /// Reads a script, plays the one controller and writes its report.
+#[tactic(auto, using(crate::proofs::Runs::all_are_a_front))]
 fn run_solo<S: Source, K: Sink>(alloc: Global, source: &mut S, sink: &mut K) -> Status
     ensures says { Says (record {
       held = S.left source.old;
@@ -69,9 +78,14 @@ fn run_solo<S: Source, K: Sink>(alloc: Global, source: &mut S, sink: &mut K) -> 
       written_after = K.faults sink.new;
     }) result }
     ensures silent { IsSilent result → sink.new ≡ sink.old }
+    ensures source_steady { result ≢ Status.ReadFault → S.faults source.new ≡ S.faults source.old }
+    ensures sink_steady { result ≢ Status.WriteFault → K.faults sink.new ≡ K.faults sink.old }
+    ensures source_never_falls { S.faults source.old ≤ S.faults source.new }
+    ensures sink_never_falls { K.faults sink.old ≤ K.faults sink.new }
     ensures too_long { (bytes : List ℕ)
         → S.left source.old ≡ Some bytes → script_limit < length bytes
-        → (result ≡ Status.ScriptTooLong) ⊎ ((result ≡ Status.ReadFault) ⊎ (result ≡ Status.NoMemory)) }
+        → (result ≡ Status.ScriptTooLong)
+            ⊎ ((result ≡ Status.ReadFault) ⊎ (result ≡ Status.NoMemory)) }
 {
     let text = match read_all(alloc, source, SCRIPT_LIMIT) {
         Ok(text) => text,

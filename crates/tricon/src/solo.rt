@@ -1,7 +1,7 @@
 ghost use Rattle.std.specs.Prelude.{◌≡◌, ◌≤◌, ◌<◌, ◌+◌, ◌^◌, ◌++◌, [], length, pos, OnOk, IfOk, replicate, slice_index_or};
 ghost use Rattle.std.specs.List.{flat_map, range_with_len};
 ghost use Rattle.chassis.specs.Points.{inputs_of};
-ghost use Rattle.tricon.specs.LegTapes.{tapes_of, votes_at, HasScan};
+ghost use Rattle.tricon.specs.inner.LegTapes.{tapes_of, votes_at, HasScan};
 ghost use Rattle.tricon.specs.SmallMeaning.{first_memory, memory_after, outputs_of};
 ghost use Rattle.tricon.specs.SingleController.{memory_at};
 ghost use Rattle.tricon.specs.VotedInputs.{voted, votes};

@@ -2,7 +2,7 @@ ghost use Rattle.std.specs.Prelude.{◌≡◌, map, bytes_eq};
 ghost use Rattle.std.specs.List.{list_any};
 ghost use Rattle.std.specs.Char.{to_ascii_uppercase};
 ghost use Rattle.tricon.specs.SmallProgram.{is_reserved as is_reserved_word};
-ghost use Rattle.tricon.specs.SmallReading.{identifier_of};
+ghost use Rattle.tricon.specs.inner.SmallReading.{identifier_of};
 
 use tri_base::Name;
 

@@ -3,7 +3,7 @@ ghost use Rattle.std.specs.List.{prefix_len};
 ghost use Rattle.std.specs.Char.{to_ascii_uppercase};
 ghost use Rattle.tri_base.specs.Names.{is_word_byte};
 ghost use Rattle.tricon.specs.SmallProgram.{is_white};
-ghost use Rattle.tricon.specs.SmallReading.{piece_len_of};
+ghost use Rattle.tricon.specs.inner.SmallReading.{piece_len_of};
 
 use std::marker::Model;
 
@@ -26,7 +26,7 @@ impl<'a> Pieces<'a> {
     ghost use Rattle.std.specs.Prelude.{◌≡◌, ◌↔◌, [], ◌∷◌, map, IsTrue, MatchOption};
     ghost use Rattle.std.specs.Char.{to_ascii_uppercase};
     ghost use Rattle.tricon.specs.SmallProgram.{capitals_of};
-    ghost use Rattle.tricon.specs.SmallReading.{Goes, keyword};
+    ghost use Rattle.tricon.specs.inner.SmallReading.{Goes, keyword};
 
     /// All pieces of a text.
     pub fn new(text: &'a [u8]) -> Pieces<'a>

@@ -16,7 +16,8 @@ pub struct SmallProgram {
 
 impl Model for SmallProgram {
     ghost use Rattle.std.specs.Prelude.{◌<◌};
-    ghost use Rattle.tricon.specs.SmallMeaning.{Wiring, IsWired};
+    ghost use Rattle.tricon.specs.SmallMeaning.{Wiring};
+    ghost use Rattle.tricon.specs.inner.SmallWired.{IsWired};
 
     ghost Value = { Wiring };
 
@@ -27,7 +28,7 @@ impl Model for SmallProgram {
 
 impl SmallProgram {
     ghost use Rattle.std.specs.Prelude.{◌≡◌, ◌+◌, ◌≤◌, length};
-    ghost use Rattle.tricon.specs.SmallMeaning.{scan_of, IsWired};
+    ghost use Rattle.tricon.specs.inner.SmallWired.{scan_of, IsWired};
 
     /// A program of its parts.
     pub fn new(

@@ -2,8 +2,8 @@ ghost use Rattle.std.specs.Prelude.{◌≡◌, ◌<◌, [], length, map, IfOk, I
 ghost use Rattle.std.specs.Char.{to_ascii_uppercase};
 ghost use Rattle.chassis.specs.Points.{IsChassis};
 ghost use Rattle.tricon.specs.SmallProgram.{is_at, is_discrete, is_output_kind, capitals_of};
-ghost use Rattle.tricon.specs.SmallReading.{Goes, Reads, Lists, head, end_of_block, identifier, place_named, with_tag, tags_from, tag_named, output_named, statement, statements_from, program_of};
-ghost use Rattle.tricon.specs.SmallBody.{program_in, IsWithin};
+ghost use Rattle.tricon.specs.inner.SmallReading.{Goes, Reads, Lists, head, end_of_block, identifier, place_named, with_tag, tags_from, tag_named, output_named, statement, statements_from, program_of};
+ghost use Rattle.tricon.specs.inner.SmallBody.{program_in, IsWithin};
 
 use crate::small::identifier::read_identifier;
 use crate::small::pieces::{Pieces, spells};
@@ -80,7 +80,7 @@ fn declare(chassis: &Chassis, piece: &[u8], tags: &mut Tags) -> Result<bool, NoM
 }
 
 /// Names with commas between them, and a colon.
-#[tactic(auto, unfolding(crate::specs::SmallReading::tags_from))]
+#[tactic(auto, unfolding(crate::specs::inner::SmallReading::tags_from))]
 fn read_tags(chassis: &Chassis, pieces: &mut Pieces<'_>, tags: &mut Tags) -> Result<bool, NoMemory>
     requires { tags.old.points ≡ length chassis.now }
     ensures tags { IfOk result (λ found. Goes (tags_from chassis.now tags.old.tags pieces.old) found (tags.new.tags, pieces.new)) }

@@ -1,5 +1,5 @@
 ghost use Rattle.std.specs.Prelude.{IfOk, IfSome, IfNone};
-ghost use Rattle.tricon.specs.SmallMeaning.{Means, MeansNothing};
+ghost use Rattle.tricon.specs.inner.SmallWired.{Means, MeansNothing};
 
 use crate::small::program::SmallProgram;
 use crate::small::read::read_body;

@@ -16,7 +16,7 @@ pub struct Tags {
 
 impl Model for Tags {
     ghost use Rattle.std.specs.Prelude.{length};
-    ghost use Rattle.tricon.specs.SmallReading.{TagsValue, AreNumbered};
+    ghost use Rattle.tricon.specs.inner.SmallReading.{TagsValue, AreNumbered};
 
     ghost Value = { TagsValue };
 

@@ -3,7 +3,7 @@ ghost use Rattle.std.specs.List.{range_with_len};
 ghost use Rattle.chassis.specs.Points.{inputs_of};
 ghost use Rattle.tricon.specs.SmallProgram.{is_at, is_output_kind};
 ghost use Rattle.tricon.specs.SmallMeaning.{source_of, number_of, output_places, wiring_of};
-ghost use Rattle.tricon.specs.SmallBody.{program_in, IsWithin};
+ghost use Rattle.tricon.specs.inner.SmallBody.{program_in, IsWithin};
 
 use crate::small::program::SmallProgram;
 use crate::small::read::Body;

@@ -9,7 +9,7 @@ invariant-loop-count g l =
     record {
       taken : Taken (source.left l.fn.source) (source.left l.source) l.text.list;
       allowed : length l.text.list + l.allowed ≡ l.limit;
-      later : source.faults l.fn.source ≤ source.faults l.source;
+      steady : source.faults l.source ≡ source.faults l.fn.source;
     }
 
 abbrev pub decreases-loop-count : goal.decreases-loop-count

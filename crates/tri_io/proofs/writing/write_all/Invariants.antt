@@ -1,5 +1,5 @@
-use Rattle.std.proofs.Common.{◌≤◌, ◌-◌, length, take}
-use Rattle.tri_io.specs.Wholes.{PutsAll}
+use Rattle.std.proofs.Common.{◌≡◌, ◌≤◌, ◌-◌, length, take}
+use Rattle.tri_io.specs.WholeStreams.{PutsAll}
 use Rattle.tri_io.proofs.writing.write_all.Given as goal
 
 -- what was put so far, and the count of failures
@@ -9,7 +9,7 @@ invariant-loop-at g l =
     record {
       put : PutsAll (sink.taken l.fn.sink) (sink.taken l.sink) (take l.at l.bytes);
       within : l.at ≤ length l.bytes;
-      later : sink.faults l.fn.sink ≤ sink.faults l.sink;
+      steady : sink.faults l.sink ≡ sink.faults l.fn.sink;
     }
 
 abbrev pub decreases-loop-at : goal.decreases-loop-at

@@ -1,5 +1,5 @@
 use Rattle.std.proofs.Common.{◌≡◌, ◌∙◌, ◌+◌, ◌<◌, ◌++◌, ℕ, ap, sym, subst, arith, length}
-use Rattle.tricon.specs.LegTapes.{votes_at, HasScan}
+use Rattle.tricon.specs.inner.LegTapes.{votes_at, HasScan}
 use Rattle.tricon.specs.SmallMeaning.{memory_after, outputs_of}
 use Rattle.tricon.specs.SingleController.{memory_at}
 use Rattle.tricon.specs.VotedInputs.{voted_inputs}

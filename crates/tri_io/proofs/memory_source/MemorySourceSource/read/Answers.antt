@@ -1,5 +1,5 @@
 use Rattle.std.proofs.Common.{ap}
-use Rattle.tri_io.specs.Memory.{SourceValue}
+use Rattle.tri_io.specs.MemoryStreams.{SourceValue}
 use Rattle.tri_io.proofs.Fronts.{given_front}
 use Rattle.tri_io.proofs.memory_source.MemorySourceSource.read.Goals as goal
 

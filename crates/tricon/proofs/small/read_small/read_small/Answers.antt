@@ -1,9 +1,9 @@
 use Rattle.std.proofs.Common.{◌≡◌, ◌∙◌, sym, subst, arith, List, ℕ, Option, Some, None}
 use Rattle.tri_base.specs.declared.point.Point.{Point}
 use Rattle.tricon.specs.SmallProgram.{capitals_of}
-use Rattle.tricon.specs.SmallMeaning.{Means, MeansNothing}
-use Rattle.tricon.specs.SmallReading.{Lists, program_of}
-use Rattle.tricon.specs.SmallBody.{program_in}
+use Rattle.tricon.specs.inner.SmallWired.{Means, MeansNothing}
+use Rattle.tricon.specs.inner.SmallReading.{Lists, program_of}
+use Rattle.tricon.specs.inner.SmallBody.{program_in}
 use Rattle.tricon.specs.declared.small.read.Body.{Body}
 use Rattle.tricon.proofs.SmallLaws.{program_read}
 use Rattle.tricon.proofs.SmallKnown.{program_known}

@@ -1,7 +1,8 @@
 -- What the play of a script's bytes comes to.
+-- Nobody has to believe this: it serves private functions alone.
 use Rattle.std.specs.Prelude.{◌≡◌, ℕ, List, Result, Ok, Err}
 use Rattle.tri_base.specs.Rows.{TextValue}
-use Rattle.tricon.specs.Answers.{IsRefusedFor}
+use Rattle.tricon.specs.SoloRun.{IsRefusedFor}
 use Rattle.tricon.specs.SoloReport.{IsSoloReport}
 use Rattle.tricon.specs.declared.status.Status.{Status}
 use Rattle.tricon.specs.declared.status.Status.TheVariants.{Refused, NoMemory}

@@ -1,8 +1,8 @@
--- What each status says of the words, of what was read, and of what was written.
+-- A run of `solo`, and what each status says of what was read and of what was written.
 use Rattle.std.specs.Prelude.{◌≡◌, ◌≢◌, ℕ, List, [], ◌∷◌, map, Option, Some, None, codes}
 use Rattle.tri_base.specs.Rows.{TextValue}
-use Rattle.tri_io.specs.Counts.{Rose}
-use Rattle.tri_io.specs.Wholes.{TakesAll, TakesPast, TakesFront, PutsAll, PutsSome}
+use Rattle.tri_io.specs.FaultCounts.{Rose}
+use Rattle.tri_io.specs.WholeStreams.{TakesAll, TakesPast, TakesFront, PutsAll, PutsSome}
 use Rattle.plant_script.specs.ScriptValue.{ReadScript}
 use Rattle.plant_script.specs.ScriptText.{script_of}
 use Rattle.tricon.specs.SmallProgram.{SmallProgram, IsSmall}
@@ -20,7 +20,8 @@ IsSolo words = map (λ (w : TextValue). w.list) words ≡ codes "solo" ∷ []
 abbrev pub script_limit : ℕ
 script_limit = 1048576
 
--- one run of a command: the bytes that the source held and holds, the bytes that the sink had and has, as far as they tell; and their counts of faults
+-- one run of a command: the bytes that the source held and holds, and that the sink had and has, as far as they tell;
+-- and their counts of faults, before and after
 pub record Run : Type 0 where
   pub held : Option (List ℕ)
   pub left : Option (List ℕ)
@@ -63,7 +64,7 @@ Says run Usage = ⊥
 Says run (Refused line cause) = (line ≡ 0) × Refuses run cause
 Says run ReadFault = Rose run.read_before run.read_after × TakesFront script_limit run.held run.left
 Says run WriteFault = Rose run.written_before run.written_after × Writes run PutsSome
-Says run NoMemory = Unit {0}
+Says run NoMemory = TakesFront script_limit run.held run.left
 Says run ScriptTooLong = TakesPast script_limit run.held run.left
 
 -- the statuses with which nothing was written

@@ -1,9 +1,11 @@
 -- What the reader keeps of a text.
+-- Nobody has to believe this: it serves private functions alone.
 use Rattle.std.specs.Prelude.{◌≡◌, ◌<◌, List, length, All}
 use Rattle.tri_base.specs.declared.point.Point.{Point}
 use Rattle.tricon.specs.SmallProgram.{SmallProgram}
 use Rattle.tricon.specs.declared.small.read.Body.{Body}
 
+-- the program that it says
 abbrev pub program_in : Body → SmallProgram
 program_in body = record { tags = body.tags.tags; assignments = body.assignments.items }
 
