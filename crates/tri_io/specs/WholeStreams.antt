@@ -2,23 +2,23 @@
 use Rattle.std.specs.Prelude.{◌≡◌, ℕ, ◌+◌, ◌<◌, ◌≤◌, List, [], ◌++◌, length, take, drop, Option}
 use Rattle.tri_io.specs.SingleCalls.{WhereTold}
 
--- these bytes are all that were left, and nothing is left now
+-- These bytes are all that were left, and nothing is left now.
 abbrev pub TakesAll : Option (List ℕ) → Option (List ℕ) → List ℕ → Type 0
 TakesAll before after bytes = WhereTold (λ b a. (bytes ≡ b) × (a ≡ [])) before after
 
--- more bytes than the limit were left, and one more than the limit were taken
+-- More bytes than the limit were left, and one more than the limit were taken.
 abbrev pub TakesPast : ℕ → Option (List ℕ) → Option (List ℕ) → Type 0
 TakesPast limit before after = WhereTold (λ b a. (limit < length b) × (a ≡ drop (limit + 1) b)) before after
 
--- some bytes were taken from the front of those that were left, at most so many
+-- Some bytes were taken from the front of those that were left, at most so many.
 abbrev pub TakesFront : ℕ → Option (List ℕ) → Option (List ℕ) → Type 0
 TakesFront limit before after =
     WhereTold (λ b a. (n : ℕ) × (n ≤ limit) × (n ≤ length b) × (a ≡ drop n b)) before after
 
--- all the bytes were put behind those taken before
+-- All the bytes were put behind those taken before.
 abbrev pub PutsAll : Option (List ℕ) → Option (List ℕ) → List ℕ → Type 0
 PutsAll before after bytes = WhereTold (λ b a. a ≡ b ++ bytes) before after
 
--- some bytes from the front were put behind those taken before, but not all
+-- Some bytes from the front were put behind those taken before, but not all.
 abbrev pub PutsSome : Option (List ℕ) → Option (List ℕ) → List ℕ → Type 0
 PutsSome before after bytes = WhereTold (λ b a. (n : ℕ) × (n < length bytes) × (a ≡ b ++ take n bytes)) before after

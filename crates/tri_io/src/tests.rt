@@ -1,3 +1,5 @@
+ghost use Rattle.std.specs.Prelude.{◌≤◌, IfOk};
+
 use super::*;
 use std::alloc::Global;
 use std::io::{self, Read, Write};
@@ -101,7 +103,9 @@ struct Flaky {
 
 impl Flaky {
     /// How many of so many bytes the next call moves.
-    fn step(&mut self, count: usize) -> io::Result<usize> {
+    fn step(&mut self, count: usize) -> io::Result<usize>
+        ensures { IfOk result (λ n. n ≤ count) }
+    {
         self.calls = self.calls.saturating_add(1);
         if self.calls == self.failing {
             return Err(io::Error::from(io::ErrorKind::BrokenPipe));

@@ -1,5 +1,5 @@
 -- What a run comes to, over plain values.
-use Rattle.std.proofs.Common.{◌≡◌, ℕ, ◌≤◌, ◌<◌, Bool, true, List, [], ◌∷◌, ◌++◌, length, drop, get_or, Option, Some, None, refl, sym, ap, ◌∙◌, subst, arith, ◌⊎◌, inl, inr, codes}
+use Rattle.std.proofs.Common.{◌≡◌, ℕ, ◌≤◌, ◌<◌, Bool, true, List, [], ◌∷◌, ◌++◌, length, get_or, Option, Some, None, refl, sym, ap, ◌∙◌, subst, arith, ◌⊎◌, inl, inr, codes}
 use Rattle.std.proofs.lemmas.List.{drop_all}
 use Rattle.std.specs.Bool.{Decides}
 use Rattle.tri_base.specs.Rows.{TextValue}
@@ -10,7 +10,7 @@ use Rattle.plant_script.specs.ScriptText.{script_of}
 use Rattle.plant_script.specs.ScriptValue.{ReadScript}
 use Rattle.tricon.specs.SmallProgram.{IsSmall}
 use Rattle.tricon.specs.SmallMeaning.{Wiring, wiring_of}
-use Rattle.tricon.specs.inner.SmallWired.{Means, MeansNothing}
+use Rattle.tricon.specs.Inner.SmallWired.{Means, MeansNothing}
 use Rattle.tricon.specs.SoloReport.{IsSoloReport, solo_report}
 use Rattle.tricon.specs.SoloRun.{BuildsNone, IsSolo, Run, Says, script_limit}
 use Rattle.tricon.specs.declared.status.Status.{Status}

@@ -7,7 +7,7 @@ use Rattle.tri_base.specs.declared.point.Point.{Point}
 use Rattle.chassis.specs.Points.{place_of}
 use Rattle.tricon.specs.SmallProgram.{SmallProgram, IsSmall, IsTag, IsAssignment, IsIdentifier, capitals_of, separated, assignment_of, tag_name, name_at, is_at, is_discrete, is_output_kind}
 use Rattle.tricon.specs.SmallMeaning.{number_of}
-use Rattle.tricon.specs.inner.SmallReading.{keyword, head, end_of_block, place_named, with_tag, tags_from, tag_named, output_named, statement, statements_from, program_of}
+use Rattle.tricon.specs.Inner.SmallReading.{keyword, head, end_of_block, place_named, with_tag, tags_from, tag_named, output_named, statement, statements_from, program_of}
 use Rattle.tricon.proofs.SmallNames.{is_identifier}
 use Rattle.tricon.proofs.SmallTags.{number_at, position_none}
 use Rattle.tricon.proofs.SmallPoints.{place_at, at_within}

@@ -6,7 +6,7 @@ use Rattle.std.specs.List.{list_all}
 use Rattle.std.specs.Char.{is_ascii_digit, to_ascii_uppercase}
 use Rattle.tri_base.specs.Names.{is_word_byte, is_name, name_of, starts_with_digit}
 use Rattle.tricon.specs.SmallProgram.{is_reserved, reserved, IsIdentifier}
-use Rattle.tricon.specs.inner.SmallReading.{identifier_of}
+use Rattle.tricon.specs.Inner.SmallReading.{identifier_of}
 
 stays : (b : ℕ) → to_ascii_uppercase (to_ascii_uppercase b) ≡ to_ascii_uppercase b
 stays b = grind arith

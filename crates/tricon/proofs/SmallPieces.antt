@@ -6,7 +6,7 @@ use Rattle.std.specs.List.{prefix_len}
 use Rattle.std.specs.Char.{to_ascii_uppercase}
 use Rattle.tri_base.specs.Names.{is_word_byte}
 use Rattle.tricon.specs.SmallProgram.{is_white, joins, onto, pieces_of, capitals_of}
-use Rattle.tricon.specs.inner.SmallReading.{piece_len_of}
+use Rattle.tricon.specs.Inner.SmallReading.{piece_len_of}
 
 -- a byte of a word is no white space and no colon
 not_white : (b : ℕ) → is_word_byte b ≡ true → is_white b ≡ false

@@ -2,7 +2,7 @@
 use Rattle.std.proofs.Common.{◌≡◌, ℕ, Bool, true, false, List, [], ◌∷◌, ◌++◌, Option, Some, None, codes, option_and_then, if◌then◌else◌, bytes_eq, length, ◌<◌, refl, sym, ap, ◌∙◌, arith}
 use Rattle.tri_base.specs.declared.point.Point.{Point}
 use Rattle.std.proofs.lemmas.Slice.Eq.{bytes_eq-Decides}
-use Rattle.tricon.specs.inner.SmallReading.{Goes, keyword, with_tag, tags_from, tag_named, output_named, right_side, statement, statements_from}
+use Rattle.tricon.specs.Inner.SmallReading.{Goes, keyword, with_tag, tags_from, tag_named, output_named, right_side, statement, statements_from}
 
 pub went : {A : Type 0} (after : Option A) (t : Bool) (new : A) → Goes after t new → t ≡ true → after ≡ Some new
 went after true new h e = h

@@ -6,7 +6,7 @@ use Rattle.std.proofs.lemmas.Grind.{common_steps}
 use Rattle.std.proofs.lemmas.List.{length_push, get_or_append_left, get_or_push}
 use Rattle.std.proofs.lemmas.List.Quantifiers.{position-Some}
 use Rattle.tricon.specs.SmallMeaning.{number_of}
-use Rattle.tricon.specs.inner.SmallReading.{AreNumbered}
+use Rattle.tricon.specs.Inner.SmallReading.{AreNumbered}
 
 -- the first element that passes a test
 first_at : {X : Type 0} (p : X → Bool) (xs : List X) (i : ℕ) (d : X) → i < length xs → p (get_or xs i d) ≡ true → ((k : ℕ) → k < i → p (get_or xs k d) ≡ false) → position_or_len p xs ≡ i

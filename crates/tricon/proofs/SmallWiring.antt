@@ -10,7 +10,7 @@ use Rattle.tri_base.specs.declared.point.Point.{Point}
 use Rattle.chassis.specs.Points.{is_input_kind, inputs_of}
 use Rattle.tricon.specs.SmallProgram.{SmallProgram, is_at, is_output_kind}
 use Rattle.tricon.specs.SmallMeaning.{wiring_of, source_of, number_of, output_places}
-use Rattle.tricon.specs.inner.SmallWired.{IsWired}
+use Rattle.tricon.specs.Inner.SmallWired.{IsWired}
 use Rattle.tricon.proofs.SmallPoints.{is_at_read}
 use Rattle.tricon.proofs.SmallTags.{number_is}
 

@@ -15,7 +15,7 @@ use Rattle.plant_script.specs.ScriptValue.{ScriptValue}
 use Rattle.plant_script.specs.Readings.{settings_until, sheet_after, at_inputs, shown_readings, tape_of}
 use Rattle.tricon.specs.SmallMeaning.{Wiring, memory_after}
 use Rattle.tricon.specs.VotedInputs.{votes, voted_inputs}
-use Rattle.tricon.specs.inner.LegTapes.{tapes_of, votes_at, HasScan}
+use Rattle.tricon.specs.Inner.LegTapes.{tapes_of, votes_at, HasScan}
 use Rattle.tricon.specs.SingleController.{memory_at}
 
 range_more : (a n : ℕ) → range_with_len a (n + 1) ≡ range_with_len a n ++ (a + n) ∷ []

@@ -5,4 +5,4 @@ pub mod SingleController
 pub mod SoloReport
 pub mod Statuses
 pub mod SoloRun
-pub mod inner
+pub mod Inner

@@ -4,12 +4,12 @@ use Rattle.plant_script.specs.ScriptValue.{ScriptValue}
 use Rattle.tricon.specs.SmallMeaning.{Wiring, first_memory, memory_after, outputs_of}
 use Rattle.tricon.specs.VotedInputs.{voted_inputs}
 
--- its memory after so many scans
+-- Its memory after so many scans.
 abbrev pub memory_at : ScriptValue → Wiring → ℕ → List ℤ
 memory_at script program zero = first_memory program
 memory_at script program (suc scans) =
     memory_after program (memory_at script program scans) (voted_inputs script (suc scans))
 
--- its outputs at a scan
+-- Its outputs at a scan.
 abbrev pub outputs_at : ScriptValue → Wiring → ℕ → List ℤ
 outputs_at script program scan = outputs_of program.shown (memory_at script program scan)

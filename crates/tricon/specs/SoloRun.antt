@@ -12,16 +12,16 @@ use Rattle.tricon.specs.declared.status.Status.TheVariants.{Done, Usage, Refused
 use Rattle.tricon.specs.declared.status.RefusedCause.{RefusedCause}
 use Rattle.tricon.specs.declared.status.RefusedCause.TheVariants.{NoScript, NoProgram}
 
--- the words are the command `solo`
+-- The words are the command `solo`.
 abbrev pub IsSolo : List TextValue → Type 0
 IsSolo words = map (λ (w : TextValue). w.list) words ≡ codes "solo" ∷ []
 
--- a script has at most so many bytes
+-- A script has at most so many bytes. Own rule.
 abbrev pub script_limit : ℕ
 script_limit = 1048576
 
--- one run of a command: the bytes that the source held and holds, and that the sink had and has, as far as they tell;
--- and their counts of faults, before and after
+-- One run of a command: the bytes that the source held and holds, and that the sink had and has, as far as they tell;
+-- and their counts of faults, before and after.
 pub record Run : Type 0 where
   pub held : Option (List ℕ)
   pub left : Option (List ℕ)
@@ -32,7 +32,7 @@ pub record Run : Type 0 where
   pub written_before : ℕ
   pub written_after : ℕ
 
--- the source was read to its end, and its bytes spell a script and a program, of which something was written
+-- The source was read to its end, and its bytes spell a script and a program, of which something was written.
 pub record Writes (run : Run) (puts : Option (List ℕ) → Option (List ℕ) → List ℕ → Type 0) : Type 0 where
   pub bytes : List ℕ
   pub report : List ℕ
@@ -40,24 +40,24 @@ pub record Writes (run : Run) (puts : Option (List ℕ) → Option (List ℕ) �
   pub is : IsSoloReport bytes report
   pub written : puts run.had run.has report
 
--- the bytes spell a script whose TEXT is no program
+-- The bytes spell a script whose TEXT is no program.
 pub record BuildsNone (bytes : List ℕ) : Type 0 where
   pub script : ReadScript
   pub reads : script_of bytes ≡ Some script
   pub none : (program : SmallProgram) → IsSmall script.value.points script.value.text program → ⊥
 
--- the bytes spell no script, or one whose TEXT is no program
+-- The bytes spell no script, or one whose TEXT is no program.
 abbrev pub IsRefusedFor : List ℕ → RefusedCause → Type 0
 IsRefusedFor bytes NoScript = script_of bytes ≡ None
 IsRefusedFor bytes NoProgram = BuildsNone bytes
 
--- the source was read to its end, and its bytes are refused for this cause
+-- The source was read to its end, and its bytes are refused for this cause.
 pub record Refuses (run : Run) (cause : RefusedCause) : Type 0 where
   pub bytes : List ℕ
   pub read : TakesAll run.held run.left bytes
   pub is : IsRefusedFor bytes cause
 
--- what a status says of a run of `solo`
+-- What a status says of a run of `solo`.
 abbrev pub Says : Run → Status → Type 0
 Says run Done = Writes run PutsAll
 Says run Usage = ⊥
@@ -67,6 +67,6 @@ Says run WriteFault = Rose run.written_before run.written_after × Writes run Pu
 Says run NoMemory = TakesFront script_limit run.held run.left
 Says run ScriptTooLong = TakesPast script_limit run.held run.left
 
--- the statuses with which nothing was written
+-- The statuses with which nothing was written.
 abbrev pub IsSilent : Status → Type 0
 IsSilent status = (status ≢ Done) × (status ≢ WriteFault)

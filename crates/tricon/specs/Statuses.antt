@@ -1,4 +1,4 @@
--- The statuses with which a command ends: their numbers and lines.
+-- The statuses with which a command ends: their numbers and lines. Own rule.
 use Rattle.std.specs.Prelude.{ℕ, pos, List, [], ◌++◌, codes}
 use Rattle.std.specs.Fmt.{signed_decimal}
 use Rattle.tricon.specs.declared.status.Status.{Status}
@@ -6,7 +6,7 @@ use Rattle.tricon.specs.declared.status.Status.TheVariants.{Done, Usage, Refused
 use Rattle.tricon.specs.declared.status.RefusedCause.{RefusedCause}
 use Rattle.tricon.specs.declared.status.RefusedCause.TheVariants.{NoScript, NoProgram}
 
--- the number with which the program ends
+-- The number with which the program ends.
 abbrev pub status_number : Status → ℕ
 status_number Done = 0
 status_number Usage = 1
@@ -16,12 +16,12 @@ status_number WriteFault = 4
 status_number NoMemory = 5
 status_number ScriptTooLong = 7
 
--- the end of a refusal's line
+-- The end of a refusal's line.
 abbrev pub cause_text : RefusedCause → List ℕ
 cause_text NoScript = codes "NOSCRIPT\n"
 cause_text NoProgram = codes "NOPROGRAM\n"
 
--- the line that tells a status; none where all went well
+-- The line that tells a status; none where all went well.
 abbrev pub status_text : Status → List ℕ
 status_text Done = []
 status_text Usage = codes "usage: tricon play [summary] | solo [summary] | step | check | make NUMBER SCANS\n"

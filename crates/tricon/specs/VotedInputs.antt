@@ -6,22 +6,22 @@ use Rattle.vote_discrete.specs.Majority.{majority}
 use Rattle.plant_script.specs.ScriptValue.{ScriptValue}
 use Rattle.plant_script.specs.Readings.{shown_readings}
 
--- a discrete reading is TRUE where it isn't 0
+-- A discrete reading is TRUE where it isn't 0.
 abbrev pub is_on : ℤ → Bool
 is_on reading = not (int_eq reading (pos 0))
 
--- the vote of three readings, two out of three: 1 for TRUE and 0 for FALSE
+-- The vote of three readings, two out of three: 1 for TRUE and 0 for FALSE.
 abbrev pub voted : ℤ → ℤ → ℤ → ℤ
 voted a b c = if majority (is_on a ∷ is_on b ∷ is_on c ∷ []) then pos 1 else pos 0
 
--- the votes, input by input
+-- The votes, input by input.
 abbrev pub votes : List ℤ → List ℤ → List ℤ → List ℤ
 votes (a ∷ of_a) (b ∷ of_b) (c ∷ of_c) = voted a b c ∷ votes of_a of_b of_c
 votes [] of_b of_c = []
 votes (a ∷ of_a) [] of_c = []
 votes (a ∷ of_a) (b ∷ of_b) [] = []
 
--- the voted inputs of a scan, in order of the chassis
+-- The voted inputs of a scan, in order of the chassis.
 abbrev pub voted_inputs : ScriptValue → ℕ → List ℤ
 voted_inputs script scan =
     votes (shown_readings script A scan) (shown_readings script B scan) (shown_readings script C scan)

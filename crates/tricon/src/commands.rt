@@ -2,7 +2,7 @@ ghost use Rattle.std.specs.Prelude.{◌≡◌, ◌≢◌, ◌<◌, ◌≤◌, �
 ghost use Rattle.tri_io.specs.FaultCounts.{Rose};
 ghost use Rattle.tricon.specs.SoloReport.{IsSoloReport};
 ghost use Rattle.tricon.specs.SoloRun.{IsSolo, Says, IsSilent, script_limit};
-ghost use Rattle.tricon.specs.inner.Plays.{Plays};
+ghost use Rattle.tricon.specs.Inner.Plays.{Plays};
 
 use crate::small::read_small::read_small;
 use crate::solo::push_report;
@@ -48,7 +48,7 @@ pub fn desk<S: Source, K: Sink>(
     ensures too_long { (bytes : List ℕ)
         → IsSolo words.now → S.left source.old ≡ Some bytes → script_limit < length bytes
         → (result ≡ Status.ScriptTooLong)
-            ⊎ ((result ≡ Status.ReadFault) ⊎ (result ≡ Status.NoMemory)) }
+        ⊎ ((result ≡ Status.ReadFault) ⊎ (result ≡ Status.NoMemory)) }
     // A script within the limits whose TEXT is a program is played, unless source, sink or memory
     // fail.
     ensures complete { (bytes report : List ℕ)
@@ -64,7 +64,7 @@ pub fn desk<S: Source, K: Sink>(
     run_solo(alloc, source, sink)
 }
 
-/// Reads a script, plays the one controller and writes its report.
+// Reads a script, plays the one controller and writes its report.
 #[tactic(auto, using(crate::proofs::Runs::all_are_a_front))]
 fn run_solo<S: Source, K: Sink>(alloc: Global, source: &mut S, sink: &mut K) -> Status
     ensures says { Says (record {
@@ -85,7 +85,7 @@ fn run_solo<S: Source, K: Sink>(alloc: Global, source: &mut S, sink: &mut K) -> 
     ensures too_long { (bytes : List ℕ)
         → S.left source.old ≡ Some bytes → script_limit < length bytes
         → (result ≡ Status.ScriptTooLong)
-            ⊎ ((result ≡ Status.ReadFault) ⊎ (result ≡ Status.NoMemory)) }
+        ⊎ ((result ≡ Status.ReadFault) ⊎ (result ≡ Status.NoMemory)) }
 {
     let text = match read_all(alloc, source, SCRIPT_LIMIT) {
         Ok(text) => text,
@@ -103,7 +103,7 @@ fn run_solo<S: Source, K: Sink>(alloc: Global, source: &mut S, sink: &mut K) -> 
     }
 }
 
-/// Whether the words are the command `solo`.
+// Whether the words are the command `solo`.
 fn is_solo(words: &[Text]) -> bool
     ensures { IsTrue result ↔ IsSolo words.now }
 {
@@ -113,7 +113,7 @@ fn is_solo(words: &[Text]) -> bool
     }
 }
 
-/// The report of a script's bytes, or the status that tells why there is none.
+// The report of a script's bytes, or the status that tells why there is none.
 fn solo(alloc: Global, text: &Text) -> Result<Text, Status>
     requires { length text.now.list ≤ script_limit }
     ensures { Plays text.now.list result }
@@ -136,7 +136,7 @@ fn solo(alloc: Global, text: &Text) -> Result<Text, Status>
     }
 }
 
-/// The status of a refusal, which doesn't tell its line yet.
+// The status of a refusal, which doesn't tell its line yet.
 fn refused(cause: RefusedCause) -> Status
     ensures { result ≡ Status.Refused 0 cause }
 {

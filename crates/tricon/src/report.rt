@@ -1,4 +1,5 @@
 ghost use Rattle.std.specs.Prelude.{◌≡◌, ◌++◌, ◌∷◌, [], pos, OnOk};
+ghost use Rattle.tri_base.specs.Rows.{KeepsRoom};
 ghost use Rattle.std.specs.List.{flat_map};
 ghost use Rattle.tricon.specs.SoloReport.{line, spaced, scan_text};
 
@@ -6,7 +7,8 @@ use tri_base::{NoMemory, Text, push_bytes, push_number};
 
 /// Adds a line: a word, and numbers behind it.
 pub(crate) fn push_line(text: &mut Text, word: &[u8], numbers: &[i64]) -> Result<(), NoMemory>
-    ensures { OnOk result (text.new.list ≡ text.old.list ++ line word.now numbers.now) }
+    ensures text { OnOk result (text.new.list ≡ text.old.list ++ line word.now numbers.now) }
+    ensures room { KeepsRoom text.old text.new }
 {
     push_bytes(text, word)?;
     push_numbers(text, numbers)?;
@@ -20,7 +22,9 @@ pub(crate) fn push_led_line(
     first: i64,
     numbers: &[i64],
 ) -> Result<(), NoMemory>
-    ensures { OnOk result (text.new.list ≡ text.old.list ++ line word.now (first ∷ numbers.now)) }
+    ensures text { OnOk result
+        (text.new.list ≡ text.old.list ++ line word.now (first ∷ numbers.now)) }
+    ensures room { KeepsRoom text.old text.new }
 {
     push_bytes(text, word)?;
     push_spaced(text, first)?;
@@ -35,7 +39,9 @@ pub(crate) fn push_scan(
     inputs: &[i64],
     outputs: &[i64],
 ) -> Result<(), NoMemory>
-    ensures { OnOk result (text.new.list ≡ text.old.list ++ scan_text scan inputs.now outputs.now) }
+    ensures text { OnOk result
+        (text.new.list ≡ text.old.list ++ scan_text scan inputs.now outputs.now) }
+    ensures room { KeepsRoom text.old text.new }
 {
     push_led_line(text, b"SCAN", scan as i64, &[])?;
     push_led_line(text, b"IN", 100, inputs)?;
@@ -43,9 +49,10 @@ pub(crate) fn push_scan(
     push_led_line(text, b"ARITH", 0, &[])
 }
 
-/// Adds a space and a number for each.
+// Adds a space and a number for each.
 fn push_numbers(text: &mut Text, numbers: &[i64]) -> Result<(), NoMemory>
-    ensures { OnOk result (text.new.list ≡ text.old.list ++ flat_map spaced numbers.now) }
+    ensures text { OnOk result (text.new.list ≡ text.old.list ++ flat_map spaced numbers.now) }
+    ensures room { KeepsRoom text.old text.new }
 {
     for number in numbers {
         push_spaced(text, *number)?;
@@ -53,9 +60,10 @@ fn push_numbers(text: &mut Text, numbers: &[i64]) -> Result<(), NoMemory>
     Ok(())
 }
 
-/// Adds a space and a number.
+// Adds a space and a number.
 fn push_spaced(text: &mut Text, number: i64) -> Result<(), NoMemory>
-    ensures { OnOk result (text.new.list ≡ text.old.list ++ spaced number) }
+    ensures text { OnOk result (text.new.list ≡ text.old.list ++ spaced number) }
+    ensures room { KeepsRoom text.old text.new }
 {
     // A number of one digit, as each discrete value is, takes one write.
     if 0 <= number && number < 10 {

@@ -1,7 +1,7 @@
 ghost use Rattle.std.specs.Prelude.{◌≡◌, ◌≤◌, ◌<◌, ◌+◌, ◌^◌, ◌++◌, [], length, pos, OnOk, IfOk, replicate, slice_index_or};
 ghost use Rattle.std.specs.List.{flat_map, range_with_len};
 ghost use Rattle.chassis.specs.Points.{inputs_of};
-ghost use Rattle.tricon.specs.inner.LegTapes.{tapes_of, votes_at, HasScan};
+ghost use Rattle.tricon.specs.Inner.LegTapes.{tapes_of, votes_at, HasScan};
 ghost use Rattle.tricon.specs.SmallMeaning.{first_memory, memory_after, outputs_of};
 ghost use Rattle.tricon.specs.SingleController.{memory_at};
 ghost use Rattle.tricon.specs.VotedInputs.{voted, votes};
@@ -22,7 +22,8 @@ pub(crate) fn push_report(
     text: &mut Text,
 ) -> Result<(), NoMemory>
     requires { program.now.inputs ≡ length (inputs_of script.now.value.points) }
-    ensures { OnOk result (text.new.list ≡ text.old.list ++ solo_report script.now.value program.now) }
+    ensures { OnOk result
+        (text.new.list ≡ text.old.list ++ solo_report script.now.value program.now) }
 {
     let mut memory = zeros(alloc, program.tag_count())?;
     push_led_line(text, b"TRICON SOLO", 1, &[])?;
@@ -31,7 +32,7 @@ pub(crate) fn push_report(
     push_line(text, b"END", &[])
 }
 
-/// Plays all scans, and adds their lines.
+// Plays all scans, and adds their lines.
 fn push_scans(
     alloc: Global,
     script: &Script,
@@ -41,8 +42,11 @@ fn push_scans(
 ) -> Result<(), NoMemory>
     requires inputs { program.now.inputs ≡ length (inputs_of script.now.value.points) }
     requires memory { memory.old.list ≡ first_memory program.now }
-    ensures memory { OnOk result (memory.new.list ≡ memory_at script.now.value program.now script.now.value.scans) }
-    ensures text { OnOk result (text.new.list ≡ text.old.list ++ flat_map (scan_of_report script.now.value program.now) (range_with_len 1 script.now.value.scans)) }
+    ensures memory { OnOk result
+        (memory.new.list ≡ memory_at script.now.value program.now script.now.value.scans) }
+    ensures text { OnOk result
+        (text.new.list ≡ text.old.list ++ flat_map (scan_of_report script.now.value program.now)
+        (range_with_len 1 script.now.value.scans)) }
 {
     let tapes = read_tapes(alloc, script)?;
     let mut inputs = Words::new(alloc);
@@ -57,7 +61,7 @@ fn push_scans(
     Ok(())
 }
 
-/// What the three legs read.
+// What the three legs read.
 fn read_tapes(alloc: Global, script: &Script) -> Result<Triple<Tape>, NoMemory>
     ensures { IfOk result (λ tapes. tapes ≡ tapes_of script.now.value) }
 {
@@ -67,7 +71,7 @@ fn read_tapes(alloc: Global, script: &Script) -> Result<Triple<Tape>, NoMemory>
     Ok(Triple { a, b, c })
 }
 
-/// So many words, all 0.
+// So many words, all 0.
 fn zeros(alloc: Global, count: usize) -> Result<Words, NoMemory>
     ensures { IfOk result (λ words. words.list ≡ replicate count (pos 0)) }
 {
@@ -79,7 +83,7 @@ fn zeros(alloc: Global, count: usize) -> Result<Words, NoMemory>
     Ok(words)
 }
 
-/// Adds the votes of one scan, which counts from 0 here.
+// Adds the votes of one scan, which counts from 0 here.
 fn push_votes_at(tapes: &Triple<Tape>, scan: u32, inputs: &mut Words) -> Result<(), NoMemory>
     requires scan { HasScan tapes.now scan }
     requires fits { scan + 1 < 2 ^ 32 }
@@ -91,7 +95,7 @@ fn push_votes_at(tapes: &Triple<Tape>, scan: u32, inputs: &mut Words) -> Result<
     push_votes(a, b, c, inputs)
 }
 
-/// Adds the vote of the three legs' readings, input by input.
+// Adds the vote of the three legs' readings, input by input.
 fn push_votes(a: &[i64], b: &[i64], c: &[i64], inputs: &mut Words) -> Result<(), NoMemory>
     ensures { OnOk result (inputs.new.list ≡ inputs.old.list ++ votes a.now b.now c.now) }
 {
@@ -113,7 +117,7 @@ fn push_votes(a: &[i64], b: &[i64], c: &[i64], inputs: &mut Words) -> Result<(),
     Ok(())
 }
 
-/// The vote of three discrete readings.
+// The vote of three discrete readings.
 fn two_of_three(a: i64, b: i64, c: i64) -> i64
     ensures { result ≡ voted a b c }
 {

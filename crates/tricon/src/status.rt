@@ -1,4 +1,5 @@
 ghost use Rattle.std.specs.Prelude.{◌≡◌, ◌++◌, OnOk, OnErr};
+ghost use Rattle.tri_base.specs.Rows.{KeepsRoom};
 ghost use Rattle.tricon.specs.Statuses.{status_number, status_text, cause_text};
 
 use std::alloc::Global;
@@ -49,9 +50,11 @@ impl Status {
     }
 }
 
-/// Adds the line that tells a status, all of it or nothing; for Done there is none.
+/// Adds the line that tells a status, all of it or nothing; for Done there is none. Room that the
+/// text has is kept.
 pub fn status_line(alloc: Global, status: &Status, text: &mut Text) -> Result<(), NoMemory>
     ensures line { OnOk result (text.new.list ≡ text.old.list ++ status_text status.now) }
+    ensures room { KeepsRoom text.old text.new }
     ensures refused { OnErr result (text.new ≡ text.old) }
 {
     match status {
@@ -74,7 +77,9 @@ fn push_refusal(
     cause: RefusedCause,
     text: &mut Text,
 ) -> Result<(), NoMemory>
-    ensures line { OnOk result (text.new.list ≡ text.old.list ++ status_text (Status.Refused line cause)) }
+    ensures line { OnOk result
+        (text.new.list ≡ text.old.list ++ status_text (Status.Refused line cause)) }
+    ensures room { KeepsRoom text.old text.new }
     ensures refused { OnErr result (text.new ≡ text.old) }
 {
     let mut whole = Text::new(alloc);
@@ -86,7 +91,8 @@ fn push_refusal(
 }
 
 fn push_cause(cause: RefusedCause, text: &mut Text) -> Result<(), NoMemory>
-    ensures { OnOk result (text.new.list ≡ text.old.list ++ cause_text cause) }
+    ensures line { OnOk result (text.new.list ≡ text.old.list ++ cause_text cause) }
+    ensures room { KeepsRoom text.old text.new }
 {
     match cause {
         RefusedCause::NoScript => push_bytes(text, b"NOSCRIPT\n"),

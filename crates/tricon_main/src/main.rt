@@ -1,5 +1,5 @@
-//! `tricon`: reads a script on standard input and writes a report on standard output. The status line
-//! goes to standard error, and the status number is what the program ends with.
+//! `tricon`: reads a script on standard input and writes a report on standard output. The status
+//! line goes to standard error, and the status number is what the program ends with.
 #![tactic(auto)]
 
 use std::env::Env;
@@ -22,7 +22,7 @@ fn main(rt: HostRuntime) -> ExitCode {
     ExitCode::from(status.number())
 }
 
-/// The words behind the program's name. Words that aren't text are no command.
+// The words behind the program's name. Words that aren't text are no command.
 fn read_words<R: AllocGlobal + Env>(rt: &R) -> Result<Vec<Text>, Status> {
     let mut words = Vec::new(rt.alloc());
     let args = env::args(rt).map_err(refused)?;
@@ -33,7 +33,7 @@ fn read_words<R: AllocGlobal + Env>(rt: &R) -> Result<Vec<Text>, Status> {
     Ok(words)
 }
 
-/// Why there are no words.
+// Why there are no words.
 fn refused(error: io::Error) -> Status {
     match error.kind() {
         io::ErrorKind::OutOfMemory => Status::NoMemory,
@@ -41,14 +41,14 @@ fn refused(error: io::Error) -> Status {
     }
 }
 
-/// The bytes of a word.
+// The bytes of a word.
 fn copy_word<R: AllocGlobal>(rt: &R, bytes: &[u8]) -> Result<Text, NoMemory> {
     let mut word = Text::new(rt.alloc());
     push_bytes(&mut word, bytes)?;
     Ok(word)
 }
 
-/// Writes the status line. There is nobody to be told where that fails.
+// Writes the status line. There is nobody to be told where that fails.
 fn tell<R: AllocGlobal + Eprint>(rt: &R, status: Status) {
     let mut line = Text::new(rt.alloc());
     if status_line(rt.alloc(), &status, &mut line).is_ok()

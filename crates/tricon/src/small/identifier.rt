@@ -2,11 +2,11 @@ ghost use Rattle.std.specs.Prelude.{◌≡◌, map, bytes_eq};
 ghost use Rattle.std.specs.List.{list_any};
 ghost use Rattle.std.specs.Char.{to_ascii_uppercase};
 ghost use Rattle.tricon.specs.SmallProgram.{is_reserved as is_reserved_word};
-ghost use Rattle.tricon.specs.inner.SmallReading.{identifier_of};
+ghost use Rattle.tricon.specs.Inner.SmallReading.{identifier_of};
 
 use tri_base::Name;
 
-/// The reserved words of the language, with those that small programs have no use for.
+// The reserved words of the language, with those that small programs have no use for.
 const RESERVED: [&str; 47] = [
     "PROGRAM",
     "END_PROGRAM",
@@ -69,14 +69,14 @@ pub fn read_identifier(piece: &[u8]) -> Option<Name>
     }
 }
 
-/// Whether a word in capitals is reserved.
+// Whether a word in capitals is reserved.
 fn is_reserved(word: &[u8]) -> bool
     ensures { result ≡ is_reserved_word word.now }
 {
     is_among(&RESERVED, word)
 }
 
-/// Whether a word is one of these.
+// Whether a word is one of these.
 fn is_among(words: &[&str], word: &[u8]) -> bool
     ensures { result ≡ list_any (λ other. bytes_eq other.now word.now) words.now }
 {

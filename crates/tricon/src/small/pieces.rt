@@ -3,7 +3,7 @@ ghost use Rattle.std.specs.List.{prefix_len};
 ghost use Rattle.std.specs.Char.{to_ascii_uppercase};
 ghost use Rattle.tri_base.specs.Names.{is_word_byte};
 ghost use Rattle.tricon.specs.SmallProgram.{is_white};
-ghost use Rattle.tricon.specs.inner.SmallReading.{piece_len_of};
+ghost use Rattle.tricon.specs.Inner.SmallReading.{piece_len_of};
 
 use std::marker::Model;
 
@@ -26,7 +26,7 @@ impl<'a> Pieces<'a> {
     ghost use Rattle.std.specs.Prelude.{◌≡◌, ◌↔◌, [], ◌∷◌, map, IsTrue, MatchOption};
     ghost use Rattle.std.specs.Char.{to_ascii_uppercase};
     ghost use Rattle.tricon.specs.SmallProgram.{capitals_of};
-    ghost use Rattle.tricon.specs.inner.SmallReading.{Goes, keyword};
+    ghost use Rattle.tricon.specs.Inner.SmallReading.{Goes, keyword};
 
     /// All pieces of a text.
     pub fn new(text: &'a [u8]) -> Pieces<'a>
@@ -37,7 +37,8 @@ impl<'a> Pieces<'a> {
 
     /// Takes the first piece.
     pub fn next(&mut self) -> Option<&'a [u8]>
-        ensures { MatchOption result (self.old ≡ []) (λ piece. self.old ≡ map to_ascii_uppercase piece.now ∷ self.new) }
+        ensures { MatchOption result (self.old ≡ [])
+            (λ piece. self.old ≡ map to_ascii_uppercase piece.now ∷ self.new) }
     {
         let rest = &self.rest[white_len(self.rest)..];
         if rest.is_empty() {
@@ -66,7 +67,7 @@ impl<'a> Pieces<'a> {
     }
 }
 
-/// How many bytes of white space come first.
+// How many bytes of white space come first.
 fn white_len(text: &[u8]) -> usize
     ensures length { result ≡ prefix_len is_white text.now }
     ensures fits { result ≤ length text.now }
@@ -79,7 +80,7 @@ fn white_len(text: &[u8]) -> usize
     text.len()
 }
 
-/// How many bytes of one word come first.
+// How many bytes of one word come first.
 fn word_len(text: &[u8]) -> usize
     ensures length { result ≡ prefix_len is_word_byte text.now }
     ensures fits { result ≤ length text.now }
@@ -92,7 +93,7 @@ fn word_len(text: &[u8]) -> usize
     text.len()
 }
 
-/// How many bytes the first piece has.
+// How many bytes the first piece has.
 fn piece_len(text: &[u8]) -> usize
     requires { 0 < length text.now }
     ensures length { result ≡ piece_len_of text.now }

@@ -2,8 +2,8 @@ ghost use Rattle.std.specs.Prelude.{◌≡◌, ◌<◌, [], length, map, IfOk, I
 ghost use Rattle.std.specs.Char.{to_ascii_uppercase};
 ghost use Rattle.chassis.specs.Points.{IsChassis};
 ghost use Rattle.tricon.specs.SmallProgram.{is_at, is_discrete, is_output_kind, capitals_of};
-ghost use Rattle.tricon.specs.inner.SmallReading.{Goes, Reads, Lists, head, end_of_block, identifier, place_named, with_tag, tags_from, tag_named, output_named, statement, statements_from, program_of};
-ghost use Rattle.tricon.specs.inner.SmallBody.{program_in, IsWithin};
+ghost use Rattle.tricon.specs.Inner.SmallReading.{Goes, Reads, Lists, head, end_of_block, identifier, place_named, with_tag, tags_from, tag_named, output_named, statement, statements_from, program_of};
+ghost use Rattle.tricon.specs.Inner.SmallBody.{program_in, IsWithin};
 
 use crate::small::identifier::read_identifier;
 use crate::small::pieces::{Pieces, spells};
@@ -12,14 +12,14 @@ use chassis::{Chassis, is_input};
 use std::alloc::Global;
 use tri_base::{NoMemory, PointKind};
 
-/// PROGRAM, a name, VAR_EXTERNAL.
+// PROGRAM, a name, VAR_EXTERNAL.
 fn read_head(pieces: &mut Pieces<'_>) -> bool
     ensures { Goes (head pieces.old) result pieces.new }
 {
     pieces.eat(b"PROGRAM") && eat_identifier(pieces) && pieces.eat(b"VAR_EXTERNAL")
 }
 
-/// A name.
+// A name.
 fn eat_identifier(pieces: &mut Pieces<'_>) -> bool
     ensures { Goes (identifier pieces.old) result pieces.new }
 {
@@ -29,14 +29,14 @@ fn eat_identifier(pieces: &mut Pieces<'_>) -> bool
     }
 }
 
-/// BOOL, a semicolon, END_VAR.
+// BOOL, a semicolon, END_VAR.
 fn read_end_of_block(pieces: &mut Pieces<'_>) -> bool
     ensures { Goes (end_of_block pieces.old) result pieces.new }
 {
     pieces.eat(b"BOOL") && pieces.eat(b";") && pieces.eat(b"END_VAR")
 }
 
-/// The place of the point that a piece names.
+// The place of the point that a piece names.
 fn find_named(chassis: &Chassis, piece: &[u8]) -> Option<usize>
     ensures place { result ≡ place_named chassis.now (map to_ascii_uppercase piece.now) }
     ensures within { IfSome result (λ place. place < length chassis.now) }
@@ -44,7 +44,7 @@ fn find_named(chassis: &Chassis, piece: &[u8]) -> Option<usize>
     chassis.find(&read_identifier(piece)?)
 }
 
-/// Whether a point is discrete.
+// Whether a point is discrete.
 #[tactic(auto, using(crate::proofs::SmallPoints::is_at_read))]
 fn is_discrete_at(chassis: &Chassis, place: usize) -> bool
     requires { place < length chassis.now }
@@ -54,7 +54,7 @@ fn is_discrete_at(chassis: &Chassis, place: usize) -> bool
     matches!(point.kind, PointKind::Di | PointKind::Do)
 }
 
-/// Whether a point is an output.
+// Whether a point is an output.
 #[tactic(auto, using(crate::proofs::SmallPoints::is_at_read))]
 fn is_output_at(chassis: &Chassis, place: usize) -> bool
     requires { place < length chassis.now }
@@ -64,10 +64,12 @@ fn is_output_at(chassis: &Chassis, place: usize) -> bool
     !is_input(point.kind)
 }
 
-/// Declares the point that a piece names.
+// Declares the point that a piece names.
 fn declare(chassis: &Chassis, piece: &[u8], tags: &mut Tags) -> Result<bool, NoMemory>
     requires { tags.old.points ≡ length chassis.now }
-    ensures tags { IfOk result (λ fresh. Goes (with_tag chassis.now tags.old.tags (map to_ascii_uppercase piece.now)) fresh tags.new.tags) }
+    ensures tags { IfOk result (λ fresh.
+        Goes (with_tag chassis.now tags.old.tags (map to_ascii_uppercase piece.now))
+        fresh tags.new.tags) }
     ensures points { tags.new.points ≡ tags.old.points }
 {
     let Some(place) = find_named(chassis, piece) else {
@@ -79,11 +81,12 @@ fn declare(chassis: &Chassis, piece: &[u8], tags: &mut Tags) -> Result<bool, NoM
     tags.add(place)
 }
 
-/// Names with commas between them, and a colon.
-#[tactic(auto, unfolding(crate::specs::inner::SmallReading::tags_from))]
+// Names with commas between them, and a colon.
+#[tactic(auto, unfolding(crate::specs::Inner::SmallReading::tags_from))]
 fn read_tags(chassis: &Chassis, pieces: &mut Pieces<'_>, tags: &mut Tags) -> Result<bool, NoMemory>
     requires { tags.old.points ≡ length chassis.now }
-    ensures tags { IfOk result (λ found. Goes (tags_from chassis.now tags.old.tags pieces.old) found (tags.new.tags, pieces.new)) }
+    ensures tags { IfOk result (λ found.
+        Goes (tags_from chassis.now tags.old.tags pieces.old) found (tags.new.tags, pieces.new)) }
     ensures points { tags.new.points ≡ tags.old.points }
 {
     while let Some(name) = pieces.next() {
@@ -103,19 +106,21 @@ fn read_tags(chassis: &Chassis, pieces: &mut Pieces<'_>, tags: &mut Tags) -> Res
     Ok(false)
 }
 
-/// The number of the tag that a piece names.
+// The number of the tag that a piece names.
 fn find_tag(chassis: &Chassis, tags: &Tags, piece: &[u8]) -> Option<usize>
     requires { tags.now.points ≡ length chassis.now }
-    ensures number { result ≡ tag_named chassis.now tags.now.tags (map to_ascii_uppercase piece.now) }
+    ensures number { result
+        ≡ tag_named chassis.now tags.now.tags (map to_ascii_uppercase piece.now) }
     ensures within { IfSome result (λ number. number < length tags.now.tags) }
 {
     tags.number(find_named(chassis, piece)?)
 }
 
-/// The number of the output's tag that a piece names.
+// The number of the output's tag that a piece names.
 fn find_output(chassis: &Chassis, tags: &Tags, piece: &[u8]) -> Option<usize>
     requires { tags.now.points ≡ length chassis.now }
-    ensures number { result ≡ output_named chassis.now tags.now.tags (map to_ascii_uppercase piece.now) }
+    ensures number { result
+        ≡ output_named chassis.now tags.now.tags (map to_ascii_uppercase piece.now) }
     ensures within { IfSome result (λ number. number < length tags.now.tags) }
 {
     let place = find_named(chassis, piece)?;
@@ -125,7 +130,7 @@ fn find_output(chassis: &Chassis, tags: &Tags, piece: &[u8]) -> Option<usize>
     tags.number(place)
 }
 
-/// An assignment that begins with a piece.
+// An assignment that begins with a piece.
 fn read_statement(
     chassis: &Chassis,
     tags: &Tags,
@@ -133,8 +138,11 @@ fn read_statement(
     pieces: &mut Pieces<'_>,
 ) -> Option<(usize, usize)>
     requires { tags.now.points ≡ length chassis.now }
-    ensures pair { Reads (statement chassis.now tags.now.tags (map to_ascii_uppercase first.now) pieces.old) result pieces.new }
-    ensures within { IfSome result (λ a. (a.0 < length tags.now.tags) × (a.1 < length tags.now.tags)) }
+    ensures pair { Reads
+        (statement chassis.now tags.now.tags (map to_ascii_uppercase first.now) pieces.old)
+        result pieces.new }
+    ensures within { IfSome result
+        (λ a. (a.0 < length tags.now.tags) × (a.1 < length tags.now.tags)) }
 {
     let left = find_output(chassis, tags, first)?;
     if !pieces.eat(b":=") {
@@ -147,7 +155,7 @@ fn read_statement(
     Some((left, right))
 }
 
-/// Assignments, and END_PROGRAM as the last piece.
+// Assignments, and END_PROGRAM as the last piece.
 fn read_statements(
     alloc: Global,
     chassis: &Chassis,
@@ -155,8 +163,10 @@ fn read_statements(
     pieces: &mut Pieces<'_>,
 ) -> Result<Option<Vec<(usize, usize)>>, NoMemory>
     requires { tags.now.points ≡ length chassis.now }
-    ensures list { IfOk result (λ found. Lists (statements_from chassis.now tags.now.tags [] pieces.old) found (λ v. v.items)) }
-    ensures within { IfOk result (λ found. IfSome found (λ v. All (λ a. (a.0 < length tags.now.tags) × (a.1 < length tags.now.tags)) v.items)) }
+    ensures list { IfOk result (λ found.
+        Lists (statements_from chassis.now tags.now.tags [] pieces.old) found (λ v. v.items)) }
+    ensures within { IfOk result (λ found. IfSome found (λ v.
+        All (λ a. (a.0 < length tags.now.tags) × (a.1 < length tags.now.tags)) v.items)) }
 {
     let mut found = Vec::new(alloc);
     while let Some(first) = pieces.next() {
@@ -184,7 +194,8 @@ pub struct Body {
 
 /// Reads what a text says; None where it spells no small program.
 pub fn read_body(alloc: Global, chassis: &Chassis, text: &[u8]) -> Result<Option<Body>, NoMemory>
-    ensures program { IfOk result (λ found. Lists (program_of chassis.now (capitals_of text.now)) found program_in) }
+    ensures program { IfOk result
+        (λ found. Lists (program_of chassis.now (capitals_of text.now)) found program_in) }
     ensures within { IfOk result (λ found. IfSome found (IsWithin chassis.now)) }
     ensures chassis { IsChassis chassis.now }
 {

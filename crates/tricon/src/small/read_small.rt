@@ -1,5 +1,5 @@
 ghost use Rattle.std.specs.Prelude.{IfOk, IfSome, IfNone};
-ghost use Rattle.tricon.specs.inner.SmallWired.{Means, MeansNothing};
+ghost use Rattle.tricon.specs.Inner.SmallWired.{Means, MeansNothing};
 
 use crate::small::program::SmallProgram;
 use crate::small::read::read_body;
@@ -8,10 +8,11 @@ use chassis::Chassis;
 use std::alloc::Global;
 use tri_base::NoMemory;
 
-/// How many bytes the text of a program may have.
-const TEXT: usize = 16_384;
+// How many bytes the text of a program may have.
+const TEXT_LIMIT: usize = 16_384;
 
-/// Reads a small program over the points of a chassis: the one that the text spells, or None where it spells none.
+/// Reads a small program over the points of a chassis: the one that the text spells, or None where
+/// it spells none.
 pub fn read_small(
     alloc: Global,
     chassis: &Chassis,
@@ -20,7 +21,7 @@ pub fn read_small(
     ensures read { IfOk result (λ found. IfSome found (Means chassis.now text.now)) }
     ensures none { IfOk result (λ found. IfNone found (MeansNothing chassis.now text.now)) }
 {
-    if text.len() > TEXT {
+    if text.len() > TEXT_LIMIT {
         return Ok(None);
     }
     match read_body(alloc, chassis, text)? {

@@ -8,15 +8,15 @@ use tri_base::NoMemory;
 /// The tags that a program declares, each the place of a point, and the number of each.
 #[derive(Drop)]
 pub struct Tags {
-    /// The tags' points, in order of declaration.
+    // The tags' points, in order of declaration.
     places: Vec<usize>,
-    /// For each point of the chassis the number of its tag.
+    // For each point of the chassis the number of its tag.
     numbers: Vec<Option<usize>>,
 }
 
 impl Model for Tags {
     ghost use Rattle.std.specs.Prelude.{length};
-    ghost use Rattle.tricon.specs.inner.SmallReading.{TagsValue, AreNumbered};
+    ghost use Rattle.tricon.specs.Inner.SmallReading.{TagsValue, AreNumbered};
 
     ghost Value = { TagsValue };
 
@@ -44,7 +44,9 @@ impl Tags {
     pub fn add(&mut self, place: usize) -> Result<bool, NoMemory>
         requires { place < self.old.points }
         ensures fresh { IfOk result (λ fresh. fresh ≡ is_none (number_of self.old.tags place)) }
-        ensures tags { IfOk result (λ fresh. self.new.tags ≡ (if fresh then self.old.tags ++ place ∷ [] else self.old.tags)) }
+        ensures tags { IfOk result
+            (λ fresh. self.new.tags
+            ≡ (if fresh then self.old.tags ++ place ∷ [] else self.old.tags)) }
         ensures points { self.new.points ≡ self.old.points }
     {
         if self.numbers[place].is_some() {

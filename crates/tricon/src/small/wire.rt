@@ -3,7 +3,7 @@ ghost use Rattle.std.specs.List.{range_with_len};
 ghost use Rattle.chassis.specs.Points.{inputs_of};
 ghost use Rattle.tricon.specs.SmallProgram.{is_at, is_output_kind};
 ghost use Rattle.tricon.specs.SmallMeaning.{source_of, number_of, output_places, wiring_of};
-ghost use Rattle.tricon.specs.inner.SmallBody.{program_in, IsWithin};
+ghost use Rattle.tricon.specs.Inner.SmallBody.{program_in, IsWithin};
 
 use crate::small::program::SmallProgram;
 use crate::small::read::Body;
@@ -24,7 +24,7 @@ pub fn wire(alloc: Global, chassis: &Chassis, body: Body) -> Result<SmallProgram
     Ok(SmallProgram::new(inputs, sources, body.assignments, shown))
 }
 
-/// How many inputs the chassis has.
+// How many inputs the chassis has.
 fn count_inputs(chassis: &Chassis) -> usize
     ensures { result ≡ length (inputs_of chassis.now) }
 {
@@ -37,9 +37,10 @@ fn count_inputs(chassis: &Chassis) -> usize
     inputs
 }
 
-/// For each point its place among the inputs, if it is one.
+// For each point its place among the inputs, if it is one.
 fn input_places(alloc: Global, chassis: &Chassis) -> Result<Vec<Option<usize>>, NoMemory>
-    ensures { IfOk result (λ v. v.items ≡ map (source_of chassis.now) (range_with_len 0 (length chassis.now))) }
+    ensures { IfOk result
+        (λ v. v.items ≡ map (source_of chassis.now) (range_with_len 0 (length chassis.now))) }
 {
     let mut places = Vec::new(alloc);
     let mut inputs = 0;
@@ -51,14 +52,15 @@ fn input_places(alloc: Global, chassis: &Chassis) -> Result<Vec<Option<usize>>, 
     Ok(places)
 }
 
-/// For each tag the input that it reads, if it reads one.
+// For each tag the input that it reads, if it reads one.
 fn sources_of_tags(
     alloc: Global,
     places: &[Option<usize>],
     tags: &[usize],
 ) -> Result<Vec<Option<usize>>, NoMemory>
     requires { All (λ tag. tag < length places.now) tags.now }
-    ensures { IfOk result (λ v. v.items ≡ map (λ tag. slice_index_or places.now tag None) tags.now) }
+    ensures { IfOk result
+        (λ v. v.items ≡ map (λ tag. slice_index_or places.now tag None) tags.now) }
 {
     let mut sources = Vec::new(alloc);
     for tag in tags {
@@ -67,10 +69,11 @@ fn sources_of_tags(
     Ok(sources)
 }
 
-/// For each output the number of its tag, if it has one.
+// For each output the number of its tag, if it has one.
 fn tags_shown(alloc: Global, chassis: &Chassis, tags: &Tags) -> Result<Vec<Option<usize>>, NoMemory>
     requires { tags.now.points ≡ length chassis.now }
-    ensures { IfOk result (λ v. v.items ≡ map (number_of tags.now.tags) (output_places chassis.now)) }
+    ensures { IfOk result
+        (λ v. v.items ≡ map (number_of tags.now.tags) (output_places chassis.now)) }
 {
     let mut shown = Vec::new(alloc);
     for (place, point) in chassis.points().iter().enumerate() {

@@ -1,7 +1,11 @@
 use Rattle.std.proofs.Common.{◌≡◌, ◌++◌, take}
 use Rattle.std.specs.List.{flat_map}
+use Rattle.tri_base.specs.Rows.{KeepsRoom}
 use Rattle.tricon.specs.SoloReport.{spaced}
 use Rattle.tricon.proofs.report.push_numbers.Given as goal
 
 abbrev pub invariant-loop-number : goal.invariant-loop-number
-invariant-loop-number l = l.text.list ≡ l.fn.text.list ++ flat_map spaced (take l.number-index l.numbers)
+invariant-loop-number l = record {
+  text : l.text.list ≡ l.fn.text.list ++ flat_map spaced (take l.number-index l.numbers);
+  room : KeepsRoom l.fn.text l.text;
+}

@@ -1,5 +1,5 @@
 use Rattle.std.proofs.Common.{◌≡◌, ◌∙◌, ◌+◌, ◌<◌, ◌++◌, ℕ, ap, sym, subst, arith, length}
-use Rattle.tricon.specs.inner.LegTapes.{votes_at, HasScan}
+use Rattle.tricon.specs.Inner.LegTapes.{votes_at, HasScan}
 use Rattle.tricon.specs.SmallMeaning.{memory_after, outputs_of}
 use Rattle.tricon.specs.SingleController.{memory_at}
 use Rattle.tricon.specs.VotedInputs.{voted_inputs}
@@ -22,7 +22,7 @@ loop-scan-preserved c =
     let shown_outputs = c.items-in-loop-scan.ensures ∙ outputs in
     let piece : scan_text (n + 1) c.items.result.now c.items-in-loop-scan.result.now ≡ scan_of_report script program (n + 1) = λ i. scan_text (n + 1) (shown_inputs i) (shown_outputs i) in
     record {
-      text = scan_written c.args.text.now.list c.loop-scan.text.list c.push_scan.new.text.list (scan_text (n + 1) c.items.result.now c.items-in-loop-scan.result.now) (scan_of_report script program) n c.loop-scan.invariant.text c.in_ok-push_scan.ensures piece;
+      text = scan_written c.args.text.now.list c.loop-scan.text.list c.push_scan.new.text.list (scan_text (n + 1) c.items.result.now c.items-in-loop-scan.result.now) (scan_of_report script program) n c.loop-scan.invariant.text c.in_ok-push_scan.ensures.text piece;
       memory = c.scan.ensures.memory ∙ memory;
       words = c.scan.ensures.words ∙ c.loop-scan.invariant.words;
       room = omega (arith, c.scan.ensures.room, c.loop-scan.invariant.room);

@@ -7,5 +7,5 @@ use Rattle.tricon.proofs.status.push_refusal.Goals as goal
 pub returns-clause-line : goal.returns-clause-line
 returns-clause-line c =
     let line : to_z w64 c.args.line ≡ pos c.args.line = to_z_pos w64 c.args.line (omega (arith, c.ranges.line.fits)) in
-    let whole = four_pieces _ _ _ _ _ _ _ _ _ _ c.new-whole.ensures c.in_ok-push_bytes.ensures.list (c.in_ok-push_number.ensures.list ∙ ap (λ z. c.push_bytes.new.text.list ++ signed_decimal z) line) c.in_ok-push_bytes-2.ensures.list c.in_ok-push_cause.ensures c.bytes.ensures in
+    let whole = four_pieces _ _ _ _ _ _ _ _ _ _ c.new-whole.ensures c.in_ok-push_bytes.ensures.list (c.in_ok-push_number.ensures.list ∙ ap (λ z. c.push_bytes.new.text.list ++ signed_decimal z) line) c.in_ok-push_bytes-2.ensures.list c.in_ok-push_cause.ensures.line c.bytes.ensures in
     subst (λ (l : List ℕ). OnOk c.push_bytes-3.result (c.push_bytes-3.new.text.list ≡ c.args.text.now.list ++ l)) whole c.push_bytes-3.ensures.list

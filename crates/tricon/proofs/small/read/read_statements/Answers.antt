@@ -1,7 +1,7 @@
 use Rattle.std.proofs.Common.{◌≡◌, ◌∙◌, sym, ap, arith, List, ℕ, ◌++◌, ◌∷◌, [], true, false, map, length, ◌<◌, if◌then◌else◌, refl, subst, All}
 use Rattle.std.proofs.lemmas.List.Elements.{All-push}
 use Rattle.std.specs.Char.{to_ascii_uppercase}
-use Rattle.tricon.specs.inner.SmallReading.{statements_from}
+use Rattle.tricon.specs.Inner.SmallReading.{statements_from}
 use Rattle.tricon.proofs.SmallReads.{statement_more, statement_shorter, statement_none, statements_end, statements_none}
 use Rattle.tricon.proofs.small.read.read_statements.Goals as goal
 

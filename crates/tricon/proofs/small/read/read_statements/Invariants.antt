@@ -1,5 +1,5 @@
 use Rattle.std.proofs.Common.{◌≡◌, ◌<◌, length, [], All}
-use Rattle.tricon.specs.inner.SmallReading.{statements_from}
+use Rattle.tricon.specs.Inner.SmallReading.{statements_from}
 use Rattle.tricon.proofs.small.read.read_statements.Given as goal
 
 abbrev pub invariant-loop-first : goal.invariant-loop-first

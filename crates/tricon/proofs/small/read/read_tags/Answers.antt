@@ -1,6 +1,6 @@
 use Rattle.std.proofs.Common.{◌≡◌, ◌∙◌, sym, ap, List, ℕ, ◌∷◌, Some, true, false, codes, bytes_eq, map}
 use Rattle.std.specs.Char.{to_ascii_uppercase}
-use Rattle.tricon.specs.inner.SmallReading.{tags_from, with_tag}
+use Rattle.tricon.specs.Inner.SmallReading.{tags_from, with_tag}
 use Rattle.tricon.proofs.SmallReads.{went, tags_more}
 use Rattle.tricon.proofs.small.read.read_tags.Goals as goal
 

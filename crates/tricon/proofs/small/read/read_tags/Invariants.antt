@@ -1,5 +1,5 @@
 use Rattle.std.proofs.Common.{◌≡◌, length}
-use Rattle.tricon.specs.inner.SmallReading.{tags_from}
+use Rattle.tricon.specs.Inner.SmallReading.{tags_from}
 use Rattle.tricon.proofs.small.read.read_tags.Given as goal
 
 abbrev pub invariant-loop-name : goal.invariant-loop-name

@@ -1,9 +1,9 @@
 use Rattle.std.proofs.Common.{◌≡◌, ◌∙◌, sym, subst, arith, List, ℕ, Option, Some, None}
 use Rattle.tri_base.specs.declared.point.Point.{Point}
 use Rattle.tricon.specs.SmallProgram.{capitals_of}
-use Rattle.tricon.specs.inner.SmallWired.{Means, MeansNothing}
-use Rattle.tricon.specs.inner.SmallReading.{Lists, program_of}
-use Rattle.tricon.specs.inner.SmallBody.{program_in}
+use Rattle.tricon.specs.Inner.SmallWired.{Means, MeansNothing}
+use Rattle.tricon.specs.Inner.SmallReading.{Lists, program_of}
+use Rattle.tricon.specs.Inner.SmallBody.{program_in}
 use Rattle.tricon.specs.declared.small.read.Body.{Body}
 use Rattle.tricon.proofs.SmallLaws.{program_read}
 use Rattle.tricon.proofs.SmallKnown.{program_known}
@@ -26,6 +26,6 @@ returns-in-None-clause-none c =
     let found : program_of points (capitals_of text) ≡ None = subst (λ (o : Option Body). Lists (program_of points (capitals_of text)) o program_in) c.in-None.is c.in_ok-body.ensures.program in
     λ p small. let known = program_known points text p c.in_ok-body.ensures.chassis.apart small in let bad = sym found ∙ known in absurd (cc)
 
-pub returns-then-text-gt-TEXT-clause-none : goal.returns-then-text-gt-TEXT-clause-none
+pub returns-then-text-gt-TEXT_LIMIT-clause-none : goal.returns-then-text-gt-TEXT_LIMIT-clause-none
 unfolding MeansNothing
-returns-then-text-gt-TEXT-clause-none c = λ p small. let short = small.short in absurd (omega arith)
+returns-then-text-gt-TEXT_LIMIT-clause-none c = λ p small. let short = small.short in absurd (omega arith)

@@ -3,8 +3,8 @@ use Rattle.std.specs.List.{range_with_len}
 use Rattle.std.proofs.lemmas.List.FromFn.{length-map-range_with_len}
 use Rattle.tri_base.specs.declared.point.Point.{Point}
 use Rattle.tricon.specs.SmallMeaning.{source_of, wiring_of}
-use Rattle.tricon.specs.inner.SmallWired.{IsWired}
-use Rattle.tricon.specs.inner.SmallBody.{program_in}
+use Rattle.tricon.specs.Inner.SmallWired.{IsWired}
+use Rattle.tricon.specs.Inner.SmallBody.{program_in}
 use Rattle.tricon.proofs.SmallWiring.{sources_are, wired}
 use Rattle.tricon.proofs.small.wire.wire.Goals as goal
 

@@ -5,7 +5,7 @@ use Rattle.std.specs.List.{prefix_len}
 use Rattle.std.specs.Char.{to_ascii_uppercase}
 use Rattle.tricon.proofs.SmallPieces.{first_piece, no_piece}
 use Rattle.tricon.specs.SmallProgram.{capitals_of, is_white}
-use Rattle.tricon.specs.inner.SmallReading.{piece_len_of}
+use Rattle.tricon.specs.Inner.SmallReading.{piece_len_of}
 use Rattle.tricon.proofs.small.pieces.Pieces.next.Goals as goal
 
 pub returns-then-is_empty : goal.returns-then-is_empty

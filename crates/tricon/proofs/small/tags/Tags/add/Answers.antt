@@ -1,5 +1,5 @@
 use Rattle.std.proofs.Common.{◌≡◌, ◌∙◌, sym, ap, subst, arith, List, ℕ, ◌++◌, ◌∷◌, [], length, set, Some, Option, if◌then◌else◌, ◌<◌}
-use Rattle.tricon.specs.inner.SmallReading.{AreNumbered}
+use Rattle.tricon.specs.Inner.SmallReading.{AreNumbered}
 use Rattle.tricon.proofs.SmallTags.{numbered_more, is_free}
 use Rattle.tricon.proofs.small.tags.Tags.add.Goals as goal
 

@@ -7,7 +7,7 @@ use Rattle.tricon.specs.SoloReport.{IsSoloReport}
 use Rattle.tricon.specs.declared.status.Status.{Status}
 use Rattle.tricon.specs.declared.status.Status.TheVariants.{Refused, NoMemory}
 
--- the report of the bytes; or why there is none
+-- The report of the bytes; or why there is none.
 abbrev pub Plays : List ℕ → Result TextValue Status → Type 0
 Plays bytes (Ok report) = IsSoloReport bytes report.list
 Plays bytes (Err (Refused line cause)) = (line ≡ 0) × IsRefusedFor bytes cause

@@ -5,7 +5,7 @@ use Rattle.tri_base.specs.declared.point.Point.{Point}
 use Rattle.tricon.specs.SmallProgram.{SmallProgram, IsSmall}
 use Rattle.tricon.specs.SmallMeaning.{Wiring, wiring_of, memory_after, outputs_of}
 
--- the memory and the outputs after a scan
+-- The memory and the outputs after a scan.
 pub record Scanned : Type 0 where
   pub memory : List ℤ
   pub outputs : List ℤ
@@ -16,16 +16,16 @@ scan_of w memory inputs = record {
   outputs = outputs_of w.shown (memory_after w memory inputs);
 }
 
--- each number that a program keeps is within what it is a place of
+-- Each number that a program keeps is within what it is a place of.
 pub record IsWired (w : Wiring) : Type 0 where
   pub sources : All (λ source. IfSome source (λ place. place < w.inputs)) w.sources
   pub assignments : All (λ a. (a.0 < length w.sources) × (a.1 < length w.sources)) w.assignments
   pub shown : All (λ tag. IfSome tag (λ number. number < length w.sources)) w.shown
 
--- a text spells a program over these points, and this is it as a scan sees it
+-- A text spells a program over these points, and this is it as a scan sees it.
 abbrev pub Means : List Point → List ℕ → Wiring → Type 0
 Means points text w = (p : SmallProgram) × IsSmall points text p × (w ≡ wiring_of points p)
 
--- a text spells no program
+-- A text spells no program.
 abbrev pub MeansNothing : List Point → List ℕ → Type 0
 MeansNothing points text = (p : SmallProgram) → ¬ IsSmall points text p
