@@ -1,4 +1,4 @@
-use Rattle.std.proofs.Common.{◌≡◌, ◌+◌, ◌≤◌, length}
+use Rattle.std.proofs.Common.{◌≡◌, ◌+◌, length}
 use Rattle.tri_io.proofs.Pieces.{Taken}
 use Rattle.tri_io.proofs.reading.read_all.Given as goal
 
