@@ -26,6 +26,7 @@ dissents vote None = true
 dissents true (Some reading) = not reading
 dissents false (Some reading) = reading
 
+-- which legs dissent
 abbrev pub dissenters : Triple (Option Bool) → Triple Bool
 dissenters readings =
     let vote = majority (present readings) in

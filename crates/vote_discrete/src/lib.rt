@@ -3,8 +3,20 @@
 
 ghost use Rattle.std.specs.Prelude.{◌≡◌, false, []};
 ghost use Rattle.vote_discrete.specs.Majority.{majority, present, dissenters, TwoEqualWin, OneAloneDecides};
+ghost use Rattle.vote_discrete.specs.Truths.{truths};
 
 use tri_base::Triple;
+
+/// What the words of a discrete point say: 0 is FALSE, any other TRUE. An absent word says nothing.
+pub fn truths(words: Triple<Option<i64>>) -> Triple<Option<bool>>
+    ensures { result ≡ truths words }
+{
+    Triple {
+        a: words.a.map(|word| word != 0),
+        b: words.b.map(|word| word != 0),
+        c: words.c.map(|word| word != 0),
+    }
+}
 
 /// The value that two of three readings have; of two readings TRUE only where both are; of one that
 /// one; of none FALSE. A reading of None is absent.

@@ -18,3 +18,13 @@ fn two_of_three_decide_and_the_others_dissent(rt: HostRuntime) {
         assert_eq!(rt; [legs.a, legs.b, legs.c], dissenting, "{readings:?}");
     }
 }
+
+#[test]
+fn a_word_is_true_unless_it_is_0(rt: HostRuntime) {
+    let said = truths(Triple {
+        a: Some(1),
+        b: None,
+        c: Some(0),
+    });
+    assert_eq!(rt; [said.a, said.b, said.c], [Some(true), None, Some(false)]);
+}
