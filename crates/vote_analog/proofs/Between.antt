@@ -13,6 +13,6 @@ between_last_two a b c m e = (omega (arith, ints, clamps), omega (arith, ints, c
 pub between_ends : (a b c m : ℤ) → m ≡ middle (a ∷ b ∷ c ∷ []) → LiesBetween (Some c) (Some a) m
 between_ends a b c m e = (omega (arith, ints, clamps), omega (arith, ints, clamps))
 
--- what lies between two counts is a count
+-- What lies between two counts is a count.
 pub count_between : (a b m : ℤ) → IsCount (Some a) → IsCount (Some b) → LiesBetween (Some a) (Some b) m → IsCount (Some m)
 count_between a b m in_a in_b h = (omega (arith, ints, clamps), omega (arith, ints, clamps))

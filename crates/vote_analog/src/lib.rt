@@ -7,6 +7,8 @@ ghost use Rattle.vote_analog.specs.Middle.{AreCounts, IsCount, LiesBetween, Lies
 
 use tri_base::Triple;
 
+pub mod laws;
+
 /// The middle of three readings; of two readings the floor of their mean; of one that one; of none
 /// 0. A reading is a count of 16 bits, and None is absent.
 pub fn mid(readings: Triple<Option<i64>>) -> i64

@@ -1,0 +1,34 @@
+-- The middle lies in every range that holds 0 and the counts.
+use Rattle.std.specs.Prelude.{ℤ, pos, negsuc, ◌+ℤ◌, ◌≤ℤ◌, [], ◌∷◌, Option, Some, None}
+use Rattle.std.specs.Int.{int_div_euclid}
+use Rattle.std.proofs.Common.{arith}
+use Rattle.std.proofs.lemmas.Int.{ints, clamps}
+use Rattle.tri_base.specs.declared.leg.Triple.{Triple}
+use Rattle.vote_analog.specs.Middle.{LiesIn, LieIn, middle, present}
+
+-- the floor of a half
+halved : (low high s : ℤ) → (low +ℤ low) ≤ℤ s → s ≤ℤ (high +ℤ high) → LiesIn low high (Some (int_div_euclid s (pos 2)))
+halved low high (pos n) h k = (omega (arith, ints), omega (arith, ints))
+halved low high (negsuc n) h k = (omega (arith, ints), omega (arith, ints))
+
+two_in : (low high a b : ℤ) → LiesIn low high (Some a) → LiesIn low high (Some b) → LiesIn low high (Some (middle (a ∷ b ∷ [])))
+two_in low high a b h k = halved low high (a +ℤ b) (omega (arith, ints, h.0, k.0)) (omega (arith, ints, h.1, k.1))
+
+three_in : (low high a b c : ℤ) → LiesIn low high (Some a) → LiesIn low high (Some b) → LiesIn low high (Some c)
+    → LiesIn low high (Some (middle (a ∷ b ∷ c ∷ [])))
+three_in low high a b c h k l = (omega (arith, ints, clamps), omega (arith, ints, clamps))
+
+any_in : (low high : ℤ) (a b c : Option ℤ) → LiesIn low high (Some (pos 0)) → LiesIn low high a → LiesIn low high b → LiesIn low high c
+    → LiesIn low high (Some (middle (present (record { a = a; b = b; c = c }))))
+any_in low high None None None zero h k l = zero
+any_in low high (Some a) None None zero h k l = h
+any_in low high None (Some b) None zero h k l = k
+any_in low high None None (Some c) zero h k l = l
+any_in low high (Some a) (Some b) None zero h k l = two_in low high a b h k
+any_in low high (Some a) None (Some c) zero h k l = two_in low high a c h l
+any_in low high None (Some b) (Some c) zero h k l = two_in low high b c k l
+any_in low high (Some a) (Some b) (Some c) zero h k l = three_in low high a b c h k l
+
+pub middle_in : (low high : ℤ) (counts : Triple (Option ℤ)) → LiesIn low high (Some (pos 0)) → LieIn low high counts
+    → LiesIn low high (Some (middle (present counts)))
+middle_in low high counts zero h = any_in low high counts.a counts.b counts.c zero h.0 h.1 h.2
