@@ -1,0 +1,3 @@
+pub mod CommonDrives
+pub mod Inner
+pub mod Lent

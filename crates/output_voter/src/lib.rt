@@ -1,0 +1,10 @@
+//! The vote of three legs' drives: what the field outputs are.
+#![tactic(auto)]
+
+mod drive;
+#[cfg(test)]
+mod tests;
+mod voter;
+mod word;
+
+pub use voter::vote_drives;
