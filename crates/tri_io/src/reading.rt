@@ -17,6 +17,7 @@ pub enum ReadAll {
     /// More bytes than the limit are there.
     #[error("more bytes than the limit")]
     TooLong,
+    /// No memory was left for the bytes.
     #[error("no memory")]
     NoMemory,
 }

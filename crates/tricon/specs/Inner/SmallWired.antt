@@ -10,6 +10,7 @@ pub record Scanned : Type 0 where
   pub memory : List ℤ
   pub outputs : List ℤ
 
+-- What a scan makes of the memory and the inputs.
 abbrev pub scan_of : Wiring → List ℤ → List ℤ → Scanned
 scan_of w memory inputs = record {
   memory = memory_after w memory inputs;
