@@ -7,11 +7,13 @@ mod engine;
 pub mod laws;
 mod limits;
 mod refusal;
+mod verdict;
 
 pub use counting::{CountEngine, CountProgram};
 pub use engine::Engine;
 pub use limits::{TEXT_LIMIT, WORD_LIMIT};
-pub use refusal::{Refusal, Verdict};
+pub use refusal::Refusal;
+pub use verdict::Verdict;
 
 #[cfg(test)]
 mod tests;

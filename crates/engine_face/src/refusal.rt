@@ -31,14 +31,3 @@ pub enum Refusal {
     /// No memory was left. No verdict has this refusal.
     NoMemory,
 }
-
-/// What a leg makes of a scan's download.
-#[derive(Clone, Copy, Debug, PartialEq, Eq)]
-pub enum Verdict {
-    /// The leg runs the new program from this scan on.
-    Accepted,
-    /// The leg goes on with its program.
-    Refused(Refusal),
-    /// The leg learns, and has no program to change.
-    Learning,
-}

@@ -3,7 +3,7 @@ use Rattle.std.specs.Prelude.{ℕ, ℤ, pos, Bool, false, List, [], Option, None
 use Rattle.tri_base.specs.declared.judged.Judged.{Judged}
 use Rattle.tri_base.specs.declared.judged.Judged.TheVariants.{Waiting}
 use Rattle.tri_base.specs.Rows.{WordsValue}
-use Rattle.engine_face.specs.declared.refusal.Verdict.{Verdict}
+use Rattle.engine_face.specs.declared.verdict.Verdict.{Verdict}
 use Rattle.fault_history.specs.declared.note.Note.{Note}
 use Rattle.fault_history.specs.declared.note.Ending.{Ending}
 use Rattle.fault_history.specs.declared.note.Ending.TheVariants.{Run, Learn}
