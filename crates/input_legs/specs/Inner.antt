@@ -1,0 +1,3 @@
+-- What serves private functions alone: nobody has to believe it.
+pub mod Counts
+pub mod Shown

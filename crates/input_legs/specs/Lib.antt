@@ -1,0 +1,4 @@
+pub mod VotedSheets
+pub mod Marks
+pub mod Runs
+pub mod Inner
