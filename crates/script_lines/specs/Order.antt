@@ -6,7 +6,7 @@ use Rattle.script_lines.specs.declared.keyword.Keyword.TheVariants.{Tricon, Poin
 use Rattle.script_lines.specs.declared.keyword.Part.{Part}
 use Rattle.script_lines.specs.declared.keyword.Part.TheVariants.{Nothing, Heading, Plant, Program, Order, Count, Moment, Inside, Ended}
 
--- the keyword that a line's first word is, capitals alone
+-- The keyword that a line's first word is, capitals alone.
 abbrev pub keyword_of : List ℕ → Option Keyword
 keyword_of word =
     if bytes_eq word (codes "SET") then Some Set
@@ -30,7 +30,7 @@ keyword_of word =
     else if bytes_eq word (codes "END") then Some End
     else None
 
--- the part of a script that a line stands in, by its keyword
+-- The part of a script that a line stands in, by its keyword.
 abbrev pub part_of : Keyword → Part
 part_of Tricon = Heading
 part_of Point = Plant
@@ -52,8 +52,8 @@ part_of Rename = Inside
 part_of Ask = Inside
 part_of End = Ended
 
--- whether a line of the second part may stand behind one of the first, with nothing between them but a block and lines that
--- are passed over
+-- Whether a line of the second part may stand behind one of the first, with nothing between them but a block and lines that
+-- are passed over.
 abbrev pub may_follow : Part → Part → Bool
 may_follow Nothing Heading = true
 may_follow Heading Plant = true

@@ -1,4 +1,4 @@
-ghost use Rattle.std.specs.Prelude.{◌≡◌, [], ◌∷◌, ◌++◌, OnOk};
+ghost use Rattle.std.specs.Prelude.{◌≡◌, [], ◌∷◌, ◌++◌, OnOk, IfOk};
 
 use std::alloc::Global;
 use std::marker::Model;
@@ -40,6 +40,15 @@ impl Block {
         ensures { OnOk result (self.new ≡ self.old ++ byte ∷ []) }
     {
         self.add(&[byte])
+    }
+
+    /// The same bytes again.
+    pub fn copy(&self, alloc: Global) -> Result<Block, NoMemory>
+        ensures { IfOk result (λ block. block ≡ self.now) }
+    {
+        Ok(Block {
+            text: self.text.copy(alloc)?,
+        })
     }
 
     /// Lends the text.

@@ -1,4 +1,4 @@
-ghost use Rattle.std.specs.Prelude.{◌≡◌, [], ◌∷◌, ◌++◌, OnOk};
+ghost use Rattle.std.specs.Prelude.{◌≡◌, [], ◌∷◌, ◌++◌, OnOk, IfOk};
 
 use std::alloc::Global;
 use std::marker::Model;
@@ -33,6 +33,15 @@ impl Numbers {
         ensures { OnOk result (self.new ≡ self.old ++ number ∷ []) }
     {
         push_word(&mut self.words, number)
+    }
+
+    /// The same numbers again.
+    pub fn copy(&self, alloc: Global) -> Result<Numbers, NoMemory>
+        ensures { IfOk result (λ numbers. numbers ≡ self.now) }
+    {
+        Ok(Numbers {
+            words: self.words.copy(alloc)?,
+        })
     }
 
     /// Lends the numbers.

@@ -1,0 +1,6 @@
+pub mod Firsts
+pub mod Moments
+pub mod LineFacts
+pub mod Orders
+pub mod Reaches
+pub mod Kept

@@ -1,0 +1,6 @@
+pub mod MomentValue
+pub mod ScriptValue
+pub mod Standing
+pub mod Spells
+pub mod IsScript
+pub mod Inner

@@ -1,0 +1,71 @@
+use script_lines::{Block, Numbers};
+use std::marker::Model;
+use tri_base::{Leg, Name, Side, Text, Triple};
+
+/// What an input reads from a scan on.
+#[derive(Clone, Copy, Debug, PartialEq, Eq)]
+pub struct Setting {
+    /// The place of the input among all points of the chassis.
+    pub point: usize,
+    /// The reading of each leg.
+    pub reads: Triple<i64>,
+}
+
+/// What a text block is for.
+#[derive(Clone, Copy, Debug, PartialEq, Eq)]
+pub enum Opener {
+    /// The program's text.
+    Program,
+    /// A download.
+    Download,
+    /// A program that a leg is given.
+    Swap(Leg),
+}
+
+/// A line of a scan, but for RENAME and ASK.
+#[derive(Drop)]
+pub enum ScanLine {
+    /// An input's readings, from this scan on.
+    Set(Setting),
+    /// The scan times that the legs read, in milliseconds, from this scan on.
+    Time(Triple<i64>),
+    /// The text of the scan's download.
+    Download(Block),
+    /// A leg puts nothing and drives nothing.
+    Mute(Leg),
+    /// A leg's word at an address gets a value.
+    Poke(Leg, u32, i64),
+    /// A leg begins to learn.
+    Replace(Leg),
+    /// A leg runs another program.
+    Swap(Leg, Block),
+    /// The words of the readings packet that a leg puts, on one side or on both.
+    Read(Leg, Option<Side>, Numbers),
+    /// The words of the result packet that a leg puts, on one side or on both.
+    Result(Leg, Option<Side>, Numbers),
+    /// What a leg drives.
+    Drive(Leg, Numbers),
+}
+
+/// The lines of one scan.
+#[derive(Drop)]
+pub struct Moment {
+    pub(crate) scan: u32,
+    pub(crate) lines: Vec<ScanLine>,
+    pub(crate) renames: Vec<(Name, Name)>,
+    pub(crate) asks: Vec<Text>,
+}
+
+impl Model for Moment {
+    ghost use Rattle.std.specs.Prelude.{map};
+    ghost use Rattle.script_text.specs.MomentValue.{MomentValue};
+
+    ghost Value = { MomentValue };
+
+    ghost view = { λ m. record {
+      scan = m.scan;
+      lines = m.lines.items;
+      renames = m.renames.items;
+      asks = map (λ t. t.list) m.asks.items;
+    } };
+}

@@ -1,0 +1,88 @@
+ghost use Rattle.std.specs.Prelude.{◌≡◌};
+ghost use Rattle.script_text.specs.IsScript.{IsScript};
+
+use crate::moment::Moment;
+use chassis::Chassis;
+use script_lines::{Block, Legs};
+use std::marker::Model;
+use tri_base::{Leg, Text};
+
+/// A script that was read.
+#[derive(Drop)]
+pub struct Script {
+    pub(crate) chassis: Chassis,
+    pub(crate) text: Block,
+    pub(crate) text_line: u32,
+    pub(crate) swap_lines: Vec<u32>,
+    pub(crate) schedule: Legs,
+    pub(crate) scans: u32,
+    pub(crate) moments: Vec<Moment>,
+}
+
+impl Model for Script {
+    ghost use Rattle.script_text.specs.ScriptValue.{ReadScript};
+
+    ghost Value = { ReadScript };
+
+    ghost view = { λ s. record {
+      value = record { points = s.chassis; text = s.text; schedule = s.schedule; scans = s.scans; moments = s.moments.items };
+      text_line = s.text_line;
+      swap_lines = s.swap_lines.items;
+    } };
+
+    ghost use Rattle.script_text.specs.IsScript.{IsScript};
+
+    ghost invariant = { λ s. IsScript (record { points = s.chassis; text = s.text; schedule = s.schedule; scans = s.scans; moments = s.moments.items }) };
+}
+
+impl Script {
+    /// The number of scans, 1 to 2,000.
+    pub fn scans(&self) -> u32
+        ensures { result ≡ self.now.value.scans }
+    {
+        self.scans
+    }
+
+    /// The points.
+    pub fn chassis(&self) -> &Chassis
+        ensures { result.now ≡ self.now.value.points }
+    {
+        &self.chassis
+    }
+
+    /// The text of the program.
+    pub fn text(&self) -> &Text
+        ensures { result.now.list ≡ self.now.value.text }
+    {
+        self.text.text()
+    }
+
+    /// The line of the word TEXT, from 1.
+    pub fn text_line(&self) -> u32
+        ensures { result ≡ self.now.text_line }
+    {
+        self.text_line
+    }
+
+    /// The lines of the words SWAP, from 1, in their order.
+    pub fn swap_lines(&self) -> &[u32]
+        ensures { result.now ≡ self.now.swap_lines }
+    {
+        self.swap_lines.as_slice()
+    }
+
+    /// The legs that take turns, in their order.
+    pub fn schedule(&self) -> &[Leg]
+        ensures { result.now ≡ self.now.value.schedule }
+    {
+        self.schedule.legs()
+    }
+
+    /// The AT lines with what stands below them.
+    pub fn moments(&self) -> &[Moment]
+        ensures value { result.now ≡ self.now.value.moments }
+        ensures script { IsScript self.now.value }
+    {
+        self.moments.as_slice()
+    }
+}
