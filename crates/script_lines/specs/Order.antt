@@ -52,8 +52,8 @@ part_of Rename = Inside
 part_of Ask = Inside
 part_of End = Ended
 
--- Whether a line of the second part may stand behind one of the first, with nothing between them but a block and lines that
--- are passed over.
+-- Whether a line of the second part may stand behind one of the first, with nothing between them but a block and lines
+-- that are passed over.
 abbrev pub may_follow : Part → Part → Bool
 may_follow Nothing Heading = true
 may_follow Heading Plant = true

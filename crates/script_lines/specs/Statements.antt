@@ -141,7 +141,8 @@ result_of words = option_map (λ t. Result t.0 t.1 t.2) (sided_of words)
 -- `DRIVE leg words`
 abbrev pub drive_of : List (List ℕ) → Option Statement
 drive_of [] = None
-drive_of (leg ∷ words) = option_and_then (λ leg. option_map (λ numbers. Drive leg numbers) (numbers_of words)) (leg_of leg)
+drive_of (leg ∷ words) =
+    option_and_then (λ leg. option_map (λ numbers. Drive leg numbers) (numbers_of words)) (leg_of leg)
 
 -- One leg, and nothing behind it.
 abbrev pub single_leg : List (List ℕ) → Option Leg
@@ -192,7 +193,8 @@ ask_digits = 520
 -- `ASK hex`: 2 to 520 hexadecimal digits, an even number of them.
 abbrev pub ask : List (List ℕ) → Option Statement
 ask (digits ∷ []) =
-    if nat_le 2 (length digits) && nat_le (length digits) ask_digits then option_map (λ bytes. Ask bytes) (hex_bytes digits)
+    if nat_le 2 (length digits) && nat_le (length digits) ask_digits
+    then option_map (λ bytes. Ask bytes) (hex_bytes digits)
     else None
 ask words = None
 

@@ -107,10 +107,8 @@ pub fn read_keyword(word: &[u8]) -> Option<Keyword>
         Some(Keyword::Rename)
     } else if word == b"ASK".as_slice() {
         Some(Keyword::Ask)
-    } else if word == b"END".as_slice() {
-        Some(Keyword::End)
     } else {
-        None
+        (word == b"END".as_slice()).then_some(Keyword::End)
     }
 }
 

@@ -1,4 +1,5 @@
-//! The lines of a script one by one: lines of a text, words of a line, and what a line says by itself.
+//! The lines of a script one by one: the lines of a text, the words of a line, and what a line says
+//! by itself.
 #![tactic(auto)]
 
 mod block;

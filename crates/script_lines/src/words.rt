@@ -11,7 +11,8 @@ fn blank(byte: u8) -> bool
 
 /// The first word of a line, and what stands behind it; None for a line without words.
 pub fn cut_word(line: &[u8]) -> Option<(&[u8], &[u8])>
-    ensures { MatchOption result (words_of line.now ≡ []) (λ cut. words_of line.now ≡ cut.0.now ∷ words_of cut.1.now) }
+    ensures { MatchOption result (words_of line.now ≡ []) (λ cut. words_of line.now ≡
+        cut.0.now ∷ words_of cut.1.now) }
 {
     let (_, words) = line.split_at(blanks(line));
     if words.is_empty() {

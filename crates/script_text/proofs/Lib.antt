@@ -4,3 +4,7 @@ pub mod LineFacts
 pub mod Orders
 pub mod Reaches
 pub mod Kept
+pub mod Tapes
+pub mod Fits
+pub mod Scans
+pub mod Readable

@@ -1,2 +1,3 @@
--- What private functions of this crate ensure. Nobody has to believe it.
+-- What private functions of this crate ensure, and how private fields are kept. Nobody has to believe it.
 pub mod Steps
+pub mod LegParts

@@ -42,7 +42,8 @@ Writable Ao p = IsShort p.low × IsShort p.high × (p.tolerance ≡ pos 0)
 abbrev pub IsPlant : List Point → List Point → Type 0
 IsPlant before [] = Unit {0}
 IsPlant before (p ∷ points) =
-    (refusal_of before p ≡ None) × (name_of p.name ≡ Some p.name) × Writable p.kind p × IsPlant (before ++ p ∷ []) points
+    (refusal_of before p ≡ None) × (name_of p.name ≡ Some p.name) × Writable p.kind p
+    × IsPlant (before ++ p ∷ []) points
 
 -- Lines of a block have no line feeds, no carriage returns at their ends, and aren't ENDTEXT.
 abbrev pub AreBlockLines : List (List ℕ) → Type 0

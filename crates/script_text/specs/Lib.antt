@@ -3,4 +3,7 @@ pub mod ScriptValue
 pub mod Standing
 pub mod Spells
 pub mod IsScript
+pub mod Moments
+pub mod LegScans
+pub mod Acts
 pub mod Inner

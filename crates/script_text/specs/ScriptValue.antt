@@ -4,8 +4,8 @@ use Rattle.tri_base.specs.declared.point.Point.{Point}
 use Rattle.tri_base.specs.declared.leg.Leg.{Leg}
 use Rattle.script_text.specs.MomentValue.{MomentValue}
 
--- A script is what its lines say, in their order. The lines SCHEDULE are joined. Where RENAME and ASK lines stand among the
--- other lines of their scan doesn't count.
+-- A script is what its lines say, in their order. The SCHEDULE lines are joined. Where RENAME and ASK lines stand among
+-- the other lines of their scan doesn't count.
 pub record ScriptValue : Type 0 where
   pub points : List Point
   -- the text of the program

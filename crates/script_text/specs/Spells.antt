@@ -41,8 +41,8 @@ pub record Spells (lines : List (List ℕ)) (script : ReadScript) : Type 0 where
 abbrev pub Begins : List (List ℕ) → Type 0
 Begins lines = (more : List (List ℕ)) × (script : ReadScript) × Spells (lines ++ more) script
 
--- Line i, from 0, is the first that no script has there: the lines before it begin a script, and with it they don't. The
--- cause is the first rule that it breaks behind them.
+-- Line i, from 0, is the first that no script has there: the lines before it begin a script, and with it they don't.
+-- The cause is the first rule that it breaks behind them.
 pub record IsFirstFault (lines : List (List ℕ)) (i : ℕ) (cause : ScriptCause) : Type 0 where
   pub there : i < length lines
   pub before : Begins (take i lines)

@@ -141,7 +141,9 @@ abbrev pub set_input : Standing → ℕ → Triple ℤ → Option Point → Resu
 set_input s place reads None = Err PointCause
 set_input s place reads (Some point) =
     if is_input_kind point.kind
-    then (if all_within point reads then Ok (line_added s (SetLine (record { point = place; reads = reads }))) else Err Range)
+    then (if all_within point reads
+    then Ok (line_added s (SetLine (record { point = place; reads = reads })))
+    else Err Range)
     else Err PointCause
 
 -- `SET`: for a point that is there.

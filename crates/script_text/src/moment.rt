@@ -1,3 +1,5 @@
+ghost use Rattle.std.specs.Prelude.{◌≡◌, map};
+
 use script_lines::{Block, Numbers};
 use std::marker::Model;
 use tri_base::{Leg, Name, Side, Text, Triple};
@@ -68,4 +70,34 @@ impl Model for Moment {
       renames = m.renames.items;
       asks = map (λ t. t.list) m.asks.items;
     } };
+}
+
+impl Moment {
+    /// The scan's number, from 1.
+    pub fn scan(&self) -> u32
+        ensures { result ≡ self.now.scan }
+    {
+        self.scan
+    }
+
+    /// The lines of the scan but RENAME and ASK, in their order.
+    pub fn lines(&self) -> &[ScanLine]
+        ensures { result.now ≡ self.now.lines }
+    {
+        self.lines.as_slice()
+    }
+
+    /// The old and new names of the tags that the scan's download renames.
+    pub fn renames(&self) -> &[(Name, Name)]
+        ensures { result.now ≡ self.now.renames }
+    {
+        self.renames.as_slice()
+    }
+
+    /// The requests that are answered after the scan.
+    pub fn asks(&self) -> &[Text]
+        ensures { map (λ t. t.list) result.now ≡ self.now.asks }
+    {
+        self.asks.as_slice()
+    }
 }

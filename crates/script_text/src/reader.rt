@@ -253,7 +253,8 @@ impl Reader {
 
     /// Takes a POKE line.
     fn take_poke(&mut self, leg: Leg, address: i64, value: i64) -> Result<(), LineFault>
-        ensures step { Steps (poked self.old leg value (count_within 0 address_limit address)) result self.new }
+        ensures step { Steps (poked self.old leg value
+            (count_within 0 address_limit address)) result self.new }
         ensures line { self.new.line ≡ self.old.line }
     {
         match count(0, ADDRESS, address) {
@@ -301,7 +302,8 @@ impl Reader {
 
     /// Takes a POINT line's point.
     fn take_point(&mut self, point: Point) -> Result<(), LineFault>
-        ensures step { Steps (pointed self.old point (refusal_of self.old.points point)) result self.new }
+        ensures step { Steps (pointed self.old point
+            (refusal_of self.old.points point)) result self.new }
         ensures line { self.new.line ≡ self.old.line }
     {
         match self.chassis.add(point) {
@@ -316,7 +318,8 @@ impl Reader {
 
     /// Takes a SCANS line's number.
     fn take_scans(&mut self, number: i64) -> Result<(), LineFault>
-        ensures step { Steps (scans_to self.old (count_within 1 scan_limit number)) result self.new }
+        ensures step { Steps (scans_to self.old
+            (count_within 1 scan_limit number)) result self.new }
         ensures line { self.new.line ≡ self.old.line }
     {
         let Some(scans) = count(1, SCANS, number) else {
@@ -329,7 +332,8 @@ impl Reader {
 
     /// Takes an AT line's number.
     fn take_at(&mut self, number: i64) -> Result<(), LineFault>
-        ensures step { Steps (at_scan self.old (count_within (self.old.last + 1) self.old.scans number)) result self.new }
+        ensures step { Steps (at_scan self.old (count_within
+            (self.old.last + 1) self.old.scans number)) result self.new }
         ensures line { self.new.line ≡ self.old.line }
     {
         let Some(scan) = count_above(self.last, self.scans, number) else {
@@ -351,7 +355,8 @@ impl Reader {
 
     /// Takes a SET line.
     fn take_setting(&mut self, name: &Name, reads: Triple<i64>) -> Result<(), LineFault>
-        ensures step { Steps (set_point self.old reads (place_of self.old.points name.now)) result self.new }
+        ensures step { Steps (set_point self.old reads
+            (place_of self.old.points name.now)) result self.new }
         ensures line { self.new.line ≡ self.old.line }
     {
         match self.chassis.find(name) {
@@ -362,7 +367,8 @@ impl Reader {
 
     /// Takes the readings for the point at a place.
     fn take_reads(&mut self, place: usize, reads: Triple<i64>) -> Result<(), LineFault>
-        ensures step { Steps (set_input self.old place reads (slice_get self.old.points place)) result self.new }
+        ensures step { Steps (set_input self.old place reads
+            (slice_get self.old.points place)) result self.new }
         ensures line { self.new.line ≡ self.old.line }
     {
         let Some(point) = self.chassis.points().get(place) else {

@@ -1,11 +1,13 @@
-ghost use Rattle.std.specs.Prelude.{◌≡◌};
-ghost use Rattle.script_text.specs.IsScript.{IsScript};
+ghost use Rattle.std.specs.Prelude.{◌≡◌, map, option_map};
+ghost use Rattle.script_text.specs.Moments.{moment_at, download_in};
+ghost use Rattle.script_text.specs.IsScript.{IsBlock, IsScript};
 
-use crate::moment::Moment;
+use crate::find_moment::find_moment;
+use crate::moment::{Moment, ScanLine};
 use chassis::Chassis;
 use script_lines::{Block, Legs};
 use std::marker::Model;
-use tri_base::{Leg, Text};
+use tri_base::{Leg, Name, Text};
 
 /// A script that was read.
 #[derive(Drop)]
@@ -25,14 +27,26 @@ impl Model for Script {
     ghost Value = { ReadScript };
 
     ghost view = { λ s. record {
-      value = record { points = s.chassis; text = s.text; schedule = s.schedule; scans = s.scans; moments = s.moments.items };
+      value = record {
+        points = s.chassis;
+        text = s.text;
+        schedule = s.schedule;
+        scans = s.scans;
+        moments = s.moments.items;
+      };
       text_line = s.text_line;
       swap_lines = s.swap_lines.items;
     } };
 
     ghost use Rattle.script_text.specs.IsScript.{IsScript};
 
-    ghost invariant = { λ s. IsScript (record { points = s.chassis; text = s.text; schedule = s.schedule; scans = s.scans; moments = s.moments.items }) };
+    ghost invariant = { λ s. IsScript (record {
+      points = s.chassis;
+      text = s.text;
+      schedule = s.schedule;
+      scans = s.scans;
+      moments = s.moments.items;
+    }) };
 }
 
 impl Script {
@@ -52,7 +66,8 @@ impl Script {
 
     /// The text of the program.
     pub fn text(&self) -> &Text
-        ensures { result.now.list ≡ self.now.value.text }
+        ensures value { result.now.list ≡ self.now.value.text }
+        ensures block { IsBlock self.now.value.text }
     {
         self.text.text()
     }
@@ -85,4 +100,49 @@ impl Script {
     {
         self.moments.as_slice()
     }
+
+    /// The text of a scan's download; None where the scan has none.
+    pub fn download(&self, scan: u32) -> Option<&Text>
+        ensures { option_map (λ t. t.now.list) result ≡
+            download_in (moment_at scan self.now.value.moments).lines }
+    {
+        match find_moment(self.moments(), scan) {
+            Some(moment) => download_of(moment.lines()),
+            None => None,
+        }
+    }
+
+    /// The old and new names of the tags that a scan's download renames, in their order.
+    pub fn renames(&self, scan: u32) -> &[(Name, Name)]
+        ensures { result.now ≡ (moment_at scan self.now.value.moments).renames }
+    {
+        match find_moment(self.moments(), scan) {
+            Some(moment) => moment.renames(),
+            None => &[],
+        }
+    }
+
+    /// The requests of a scan, in their order.
+    pub fn asks(&self, scan: u32) -> &[Text]
+        ensures { map (λ t. t.list) result.now ≡ (moment_at scan self.now.value.moments).asks }
+    {
+        match find_moment(self.moments(), scan) {
+            Some(moment) => moment.asks(),
+            None => &[],
+        }
+    }
+}
+
+/// The text of the first download among lines.
+fn download_of(lines: &[ScanLine]) -> Option<&Text>
+    ensures { option_map (λ t. t.now.list) result ≡ download_in lines.now }
+{
+    let mut rest = lines;
+    'lines: while let [line, behind @ ..] = rest {
+        if let ScanLine::Download(block) = line {
+            return Some(block.text());
+        }
+        rest = behind;
+    }
+    None
 }

@@ -1,4 +1,5 @@
--- What code that takes a line ensures, unless memory fails. It serves private functions alone: nobody has to believe it.
+-- What code that takes a line ensures, unless memory fails. It serves private functions alone: nobody has to
+-- believe it.
 use Rattle.std.specs.Prelude.{◌≡◌, ℕ, ◌+◌, Result, Ok, Err}
 use Rattle.script_text.specs.declared.fault.ScriptCause.{ScriptCause}
 use Rattle.script_text.specs.declared.fault.ScriptCause.TheVariants.{End}
