@@ -1,0 +1,4 @@
+pub mod RoundLines
+pub mod RoundWords
+pub mod Round
+pub mod Pieces
