@@ -21,4 +21,5 @@ remainder kind x y = if is_on y then exact kind (x -ℤ int_div x y *ℤ y) else
 
 -- an index, clamped to the bounds of its array, with the flag where that changes it (own rule)
 abbrev pub bounded : (low high index : ℤ) → Computed
-bounded low high x = record { value = int_max low (int_min x high); flag = not (int_eq (int_max low (int_min x high)) x) }
+bounded low high x =
+    let value = int_max low (int_min x high) in record { value = value; flag = not (int_eq value x) }

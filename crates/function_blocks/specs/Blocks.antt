@@ -1,5 +1,6 @@
--- The standard function blocks (IEC 61131-3:2013, 6.6.3.5), each as what one call makes of the values of its fields. A call
--- reads each field in its type and writes all of them (own rule). `dt` is the scan time of the call, in milliseconds.
+-- The standard function blocks (IEC 61131-3:2013, 6.6.3.5), each as what one call makes of the values of its fields. A
+-- call reads each field in its type and writes all of them (own rule). `dt` is the scan time of the call, in
+-- milliseconds.
 use Rattle.std.specs.Prelude.{ℤ, pos, negsuc, ◌+ℤ◌, ◌-ℤ◌, Bool, true, false, not, ◌&&◌, ◌||◌, if◌then◌else◌, List, [], ◌∷◌, map, int_lt}
 use Rattle.std.specs.Int.{int_max, int_min}
 use Rattle.std.specs.Int.RustNames.{int_le}
@@ -94,17 +95,20 @@ timer input pt after = Truth input ∷ Number pt ∷ Truth after.q ∷ Number af
 
 -- 6.6.3.5.5, TON
 abbrev pub ton : ℤ → List Value → List Value
-ton dt (Truth input ∷ Number pt ∷ Truth q ∷ Number et ∷ Truth m ∷ []) = timer input pt (delayed_on dt input pt et m)
+ton dt (Truth input ∷ Number pt ∷ Truth q ∷ Number et ∷ Truth m ∷ []) =
+    timer input pt (delayed_on dt input pt et m)
 ton dt values = values
 
 -- 6.6.3.5.5, TOF
 abbrev pub tof : ℤ → List Value → List Value
-tof dt (Truth input ∷ Number pt ∷ Truth q ∷ Number et ∷ Truth m ∷ []) = timer input pt (delayed_off dt input pt q et m)
+tof dt (Truth input ∷ Number pt ∷ Truth q ∷ Number et ∷ Truth m ∷ []) =
+    timer input pt (delayed_off dt input pt q et m)
 tof dt values = values
 
 -- 6.6.3.5.5, TP
 abbrev pub tp : ℤ → List Value → List Value
-tp dt (Truth input ∷ Number pt ∷ Truth q ∷ Number et ∷ Truth m ∷ []) = timer input pt (pulsed dt input pt q et m)
+tp dt (Truth input ∷ Number pt ∷ Truth q ∷ Number et ∷ Truth m ∷ []) =
+    timer input pt (pulsed dt input pt q et m)
 tp dt values = values
 
 -- the equation of a block

@@ -82,12 +82,13 @@ field_names b = map (λ f. f.name) (fields_of b)
 abbrev pub first_values : BlockKind → List ℤ
 first_values b = map (λ f. f.first) (fields_of b)
 
--- the field is an input, an output
+-- the field is an input
 abbrev pub is_input : Role → Bool
 is_input Input = true
 is_input Output = false
 is_input Hidden = false
 
+-- the field is an output
 abbrev pub is_output : Role → Bool
 is_output Input = false
 is_output Output = true
@@ -97,17 +98,19 @@ is_output Hidden = false
 abbrev pub kind_of : Option Field → Option Kind
 kind_of field = option_map (λ f. f.kind) field
 
--- the type of the input of that name, and of the output of that name; None where the block has no such field
+-- the type of the input of that name; None where the block has no such input
 abbrev pub input_named : BlockKind → List ℕ → Option Kind
 input_named b name = kind_of (find (λ f. is_input f.role && bytes_eq name f.name) (fields_of b))
 
+-- the type of the output of that name; None where the block has no such output
 abbrev pub output_named : BlockKind → List ℕ → Option Kind
 output_named b name = kind_of (find (λ f. is_output f.role && bytes_eq name f.name) (fields_of b))
 
 -- the words from a place on, each read in the type of its field
 abbrev pub read_from : ℕ → List Field → List ℤ → List Value
 read_from place [] words = []
-read_from place (f ∷ more) words = in_type f.kind (slice_index_or words place (pos 0)) ∷ read_from (place + 1) more words
+read_from place (f ∷ more) words =
+    in_type f.kind (slice_index_or words place (pos 0)) ∷ read_from (place + 1) more words
 
 -- a block's words, each read in the type of its field
 abbrev pub read_fields : BlockKind → List ℤ → List Value

@@ -30,9 +30,9 @@ pub enum BlockKind {
 }
 
 /// One call of a block on its words. `dt` is the scan time of this call in milliseconds; each call
-/// counts it once, however long ago the last call was. A word outside its field's type, as a fault may
-/// leave it, counts as the nearest value of the type, for BOOL as TRUE where it isn't 0; the call writes
-/// all words.
+/// counts it once, however long ago the last call was. A word outside its field's type, as a fault
+/// may leave it, counts as the nearest value of the type, for BOOL as TRUE where it isn't 0; the
+/// call writes all words.
 pub fn step_block(kind: BlockKind, fields: &mut [i64], dt: i64)
     requires fields { length fields.old ≡ field_count kind }
     requires from { pos 0 ≤ℤ dt }

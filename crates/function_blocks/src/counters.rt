@@ -11,7 +11,8 @@ use crate::reading::{read_bool, read_int};
 // Writes the fields of a counter.
 fn write(fields: &mut [i64], input: bool, reset: bool, preset: i64, output: bool, count: i64)
     requires { length fields.old ≡ 6 }
-    ensures { fields.new ≡ number input ∷ number reset ∷ preset ∷ number output ∷ count ∷ number input ∷ [] }
+    ensures { fields.new
+        ≡ number input ∷ number reset ∷ preset ∷ number output ∷ count ∷ number input ∷ [] }
 {
     let input = i64::from(input);
     let reset = i64::from(reset);

@@ -29,8 +29,8 @@ pub struct BlockField {
     pub first: i64,
 }
 
-/// The field of a block at a place from 0, in the order of the block's words: inputs, outputs, hidden
-/// fields. None behind the last field.
+/// The field of a block at a place from 0, in the order of the block's words: inputs, outputs,
+/// hidden fields. None behind the last field.
 pub fn field_at(block: BlockKind, place: usize) -> Option<BlockField>
     ensures { option_map shown result ≡ slice_get (fields_of block) place }
 {

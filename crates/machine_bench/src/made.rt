@@ -6,8 +6,8 @@ use std::alloc::{AllocError, Global};
 /// How many words the loops work on: the two counters, the sum, and a BOOL.
 pub const LOOP_WORDS: usize = 4;
 
-/// `FOR I := 1 TO turns DO FOR J := 1 TO 10000 DO S := S + J MOD 7; B := J > 5000; IF B THEN S := 0;
-/// END_IF; END_FOR; END_FOR;`, which does 2 + 140,003 * turns instructions.
+/// `FOR I := 1 TO turns DO FOR J := 1 TO 10000 DO S := S + J MOD 7; B := J > 5000;
+/// IF B THEN S := 0; END_IF; END_FOR; END_FOR;`, which does 2 + 140,003 * turns instructions.
 pub fn loops(alloc: Global, turns: u32) -> Result<Vec<Instr>, AllocError> {
     let next = |address: usize, last: i64, back: usize| Instr::Next {
         address,
@@ -44,7 +44,8 @@ pub fn loops(alloc: Global, turns: u32) -> Result<Vec<Instr>, AllocError> {
     Ok(code)
 }
 
-/// A loop over about `count` instructions: `FOR I := 1 TO 9 DO IF B THEN N := N + 1; END_IF; .. END_FOR;`
+/// A loop over about `count` instructions:
+/// `FOR I := 1 TO 9 DO IF B THEN N := N + 1; END_IF; .. END_FOR;`
 pub fn branches(alloc: Global, count: u32) -> Result<Vec<Instr>, AllocError> {
     let mut code = Vec::new(alloc);
     code.push(Instr::Push(1))?;

@@ -1,5 +1,6 @@
-//! Runs and verifies made-up code of any size, so that a script can take the time. A line `run TURNS` runs two nested
-//! loops with so many outer turns; a line `verify COUNT TIMES` verifies code of about so many instructions so often.
+//! Runs and verifies made-up code of any size, so that a script can take the time. A line
+//! `run TURNS` runs two nested loops with so many outer turns; a line `verify COUNT TIMES` verifies
+//! code of about so many instructions so often.
 #![tactic(auto)]
 
 mod made;

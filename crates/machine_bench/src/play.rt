@@ -48,7 +48,8 @@ fn counted<L: Ledger>(blank: Blank, code: &Code, words: &mut Words, touched: &mu
     run(code, words, 100, touched, &mut steps);
 }
 
-/// Verifies code of about `count` instructions `times` times, and answers how often it was accepted.
+/// Verifies code of about `count` instructions `times` times, and answers how often it was
+/// accepted.
 pub fn verify_often(alloc: Global, count: u32, times: u32) -> Result<u32, AllocError> {
     let mut accepted = 0;
     for _ in 0..times {

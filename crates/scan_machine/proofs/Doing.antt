@@ -16,27 +16,7 @@ pushed c rest new flag e f =
     ap (λ (l : List ℤ). let left : Operated = record { stack = l; flag = c.flag } in Some left) (sym e)
     ∙ ap (λ (b : Bool). let left : Operated = record { stack = new; flag = b } in Some left) (sym f)
 
--- a number as the code passes it
-abbrev pub passed : ℤ → ℤ
-passed x = to_z w64 (of_z w64 x)
-
-pub passed-same : (x : ℤ) → IsOperand x → passed x ≡ x
-passed-same x h = omega (arith, ints)
-
--- with one operand, two, three
-module _ (instr : Instr) (stack mid low rest : List ℤ) (r : Option Operated) where
-  pub one_done : (x : ℤ) → stack ≡ x ∷ rest → IsOperand x → operate instr (passed x ∷ rest) ≡ r → operate instr stack ≡ r
-  one_done x e p h = ap (operate instr) (e ∙ ap (λ v. v ∷ rest) (sym (passed-same x p))) ∙ h
-
-  pub two_done : (x y : ℤ) → stack ≡ y ∷ mid → mid ≡ x ∷ rest → IsOperand x → IsOperand y → operate instr (passed y ∷ passed x ∷ rest) ≡ r → operate instr stack ≡ r
-  two_done x y e f p q h =
-      ap (operate instr) (e ∙ (ap (λ l. y ∷ l) f ∙ (ap (λ v. y ∷ v ∷ rest) (sym (passed-same x p)) ∙ ap (λ v. v ∷ passed x ∷ rest) (sym (passed-same y q))))) ∙ h
-
-  pub three_done : (x y z : ℤ) → stack ≡ z ∷ mid → mid ≡ y ∷ low → low ≡ x ∷ rest → IsOperand x → IsOperand y → IsOperand z
-      → operate instr (passed z ∷ passed y ∷ passed x ∷ rest) ≡ r → operate instr stack ≡ r
-  three_done x y z e f g p q k h =
-      ap (operate instr) (e ∙ (ap (λ l. z ∷ l) (f ∙ ap (λ l. y ∷ l) g) ∙ (ap (λ v. z ∷ y ∷ v ∷ rest) (sym (passed-same x p))
-      ∙ (ap (λ v. z ∷ v ∷ passed x ∷ rest) (sym (passed-same y q)) ∙ ap (λ v. v ∷ passed y ∷ passed x ∷ rest) (sym (passed-same z k)))))) ∙ h
-
-pub two_passed : (instr : Instr) (x y : ℤ) (below : List ℤ) (r : Option Operated) → IsOperand x → IsOperand y → operate instr (passed y ∷ passed x ∷ below) ≡ r → operate instr (y ∷ x ∷ below) ≡ r
-two_passed instr x y below r p q h = two_done instr (y ∷ x ∷ below) (x ∷ below) below below r x y refl refl p q h
+-- an instruction with two operands puts a computed number in their place
+pub two_computed : (instr : Instr) (stack rest new : List ℤ) (x y : ℤ) (c : Computed) (flag : Bool) → stack ≡ y ∷ x ∷ rest
+    → operate instr (y ∷ x ∷ rest) ≡ on_top c rest → new ≡ c.value ∷ rest → flag ≡ c.flag → operate instr stack ≡ Some (record { stack = new; flag = flag })
+two_computed instr stack rest new x y c flag top is e f = ap (operate instr) top ∙ (is ∙ pushed c rest new flag e f)

@@ -5,6 +5,7 @@ pub mod Sound
 pub mod Products
 pub mod Digits
 pub mod Turns
+pub mod Stacking
 pub mod Doing
 pub mod Calling
 pub mod Turning

@@ -10,7 +10,6 @@ use Rattle.function_blocks.specs.Arithmetic.{bounded}
 use Rattle.scan_machine.specs.Elements.{element}
 use Rattle.scan_machine.specs.Machine.{is_past}
 use Rattle.scan_machine.specs.Machine.{State, onward, store, read, does, stored_at}
-use Rattle.scan_machine.specs.Inner.Elements.{StoresAt}
 
 past_of : (b : Bool) (step step' last last' sum sum' : ℤ) → b ≡ is_past step' last' sum' → step' ≡ step → last' ≡ last → sum' ≡ sum → b ≡ is_past step last sum
 past_of b step step' last last' sum sum' is e f g =
@@ -36,6 +35,13 @@ module _ (dt : ℤ) (index : ℕ) (stack words : List ℤ) (flag : Bool) (stores
       ∙ (ap (λ (l : List ℤ). let s : State = record { index = back; stack = stack; words = l; flag = flag; stores = noted address (slice_index_or words address (pos 0)) stores } in Some s)
       (ap (slice_set words address) (sym g) ∙ sym w)
       ∙ ap (λ (l : List (ℕ × ℤ)). let s : State = record { index = back; stack = stack; words = words'; flag = flag; stores = l } in Some s) (sym t))
+
+-- what a store at an element does, whatever the flag and the place were
+abbrev pub StoresAt : ℕ → Kind → ℤ → ℤ → List ℤ → List ℤ → List (ℕ × ℤ) → List ℤ → List ℤ → Bool → List (ℕ × ℤ) → Type 0
+StoresAt address kind low high stack words stores stack' words' flag stores' =
+    (index : ℕ) → (before : Bool)
+    → stored_at (record { index = index; stack = stack; words = words; flag = before; stores = stores }) address kind low high stack
+    ≡ Some (record { index = index + 1; stack = stack'; words = words'; flag = before || flag; stores = stores' })
 
 -- a store at an element
 module _ (address : ℕ) (kind : Kind) (low high : ℤ) (stack mid rest words words' : List ℤ) (stores stores' : List (ℕ × ℤ)) (v x : ℤ) where

@@ -7,4 +7,5 @@ element address low index = address + unsigned_abs (index -ℤ low)
 
 -- the word is that of the element at some index
 abbrev pub IsElement : (address : ℕ) (low high : ℤ) (word : ℕ) → Type 0
-IsElement address low high word = (index : ℤ) × (low ≤ℤ index) × (index ≤ℤ high) × (word ≡ element address low index)
+IsElement address low high word =
+    (index : ℤ) × (low ≤ℤ index) × (index ≤ℤ high) × (word ≡ element address low index)

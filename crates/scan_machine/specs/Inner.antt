@@ -3,4 +3,4 @@ pub mod Reaches
 pub mod Loops
 pub mod FirstFault
 pub mod Groups
-pub mod Elements
+pub mod Waiting

@@ -124,7 +124,8 @@ load_at words address kind low high (x ∷ below) =
 abbrev pub stored_at : State → ℕ → Kind → ℤ → ℤ → List ℤ → Option State
 stored_at s address kind low high (v ∷ x ∷ below) =
     let index = bounded low high x in
-    Some (record (store (onward s below) (element address low index.value) (clamped kind v)) { flag = s.flag || index.flag })
+    let after = store (onward s below) (element address low index.value) (clamped kind v) in
+    Some (record after { flag = s.flag || index.flag })
 stored_at s address kind low high _ = None
 
 -- the place after a jump that the operand on top decides
@@ -159,7 +160,8 @@ does dt (i.LoadAt address kind low high) s = operated s (load_at s.words address
 does dt (i.StoreAt address kind low high) s = stored_at s address kind low high s.stack
 does dt (i.Jump target) s = Some (record s { index = target })
 does dt (i.JumpFalse target) s = chosen s target s.stack
-does dt (i.Next address kind step last back) s = Some (turned s address step last (read s.words address kind +ℤ step) back)
+does dt (i.Next address kind step last back) s =
+    Some (turned s address step last (read s.words address kind +ℤ step) back)
 does dt (i.Call kind address) s = Some (called s kind address dt)
 does dt instr s = operated s (operate instr s.stack)
 

@@ -184,7 +184,8 @@ named _ = None
 -- the instruction at a place names a target, and keeps the rule Target
 abbrev pub NamesTarget : List Instr → ℕ → ℕ → Type 0
 NamesTarget code place target =
-    (instr : Instr) × (slice_get code place ≡ Some instr) × (named instr ≡ Some target) × HasTarget (length code) place instr
+    (instr : Instr) × (slice_get code place ≡ Some instr)
+    × (named instr ≡ Some target) × HasTarget (length code) place instr
 
 -- some instruction names the place as a target
 abbrev pub IsTarget : List Instr → ℕ → Type 0
@@ -200,7 +201,8 @@ pub record KeepsDepth (code : List Instr) (place : ℕ) : Type 0 where
 
 -- two loops, each from its first instruction to its Next, lie apart, or one within the other
 abbrev pub Nest : (from to from' to' : ℕ) → Type 0
-Nest from to from' to' = (to < from') ⊎ (to' < from) ⊎ ((from ≤ from') × (to' ≤ to)) ⊎ ((from' ≤ from) × (to ≤ to'))
+Nest from to from' to' =
+    (to < from') ⊎ (to' < from) ⊎ ((from ≤ from') × (to' ≤ to)) ⊎ ((from' ≤ from) × (to ≤ to'))
 
 -- a loop nests with that of an earlier Next
 abbrev pub NestsWith : (from to at : ℕ) → Instr → Type 0

@@ -47,7 +47,8 @@ pub enum Instr {
     /// The first operand by the second, truncated toward zero, clamped with a flag; 0 with a flag
     /// where the second is 0.
     Div(Kind),
-    /// What the truncated quotient leaves of the first operand; 0 with a flag where the second is 0.
+    /// What the truncated quotient leaves of the first operand; 0 with a flag where the second
+    /// is 0.
     Mod(Kind),
     /// The lesser of two operands, clamped with a flag.
     Min(Kind),

@@ -2,20 +2,20 @@
 //! run of code that keeps them.
 #![tactic(auto)]
 
-pub mod counting;
+mod counting;
 mod depths;
-pub mod instructions;
-pub mod laws;
+mod instructions;
+mod laws;
 mod machine;
-mod numbers;
 mod operations;
 mod rules;
-pub mod running;
+mod running;
 mod stack;
-pub mod verified;
+mod verified;
 
 pub use crate::counting::Steps;
 pub use crate::instructions::Instr;
+pub use crate::laws::{has_noted_stores, has_one_run};
 pub use crate::running::run;
 pub use crate::verified::{BadCode, Code, CodeRule};
 pub use function_blocks::{BlockKind, Kind, step_block};

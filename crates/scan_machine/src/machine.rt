@@ -1,21 +1,20 @@
 // One instruction of the scan machine.
 
-ghost use Rattle.std.specs.Prelude.{ℕ, ◌||◌, ◌≡◌, ◌<◌, ◌≤◌, ◌+◌, ◌^◌, ◌≤ℤ◌, ◌-ℤ◌, pos, ◌∷◌, Some, length, slice_set, slice_index_or, unsigned_abs};
+ghost use Rattle.std.specs.Prelude.{ℕ, ℤ, Bool, ◌||◌, ◌≡◌, ◌<◌, ◌≤◌, ◌+◌, ◌^◌, ◌≤ℤ◌, ◌-ℤ◌, pos, ◌∷◌, Some, length, slice_set, slice_index_or, unsigned_abs};
 ghost use Rattle.tri_base.specs.Noted.{noted};
 ghost use Rattle.function_blocks.specs.Values.{IsOperand};
+ghost use Rattle.scan_machine.specs.Inner.Waiting.{waiting, here};
 ghost use Rattle.scan_machine.specs.Inner.Groups.{GoesOn};
-ghost use Rattle.scan_machine.specs.Inner.Elements.{StoresAt};
 ghost use Rattle.function_blocks.specs.Fields.{field_count};
 ghost use Rattle.function_blocks.specs.Blocks.{step_block};
 ghost use Rattle.function_blocks.specs.Arithmetic.{bounded};
 ghost use Rattle.scan_machine.specs.Elements.{element};
 ghost use Rattle.scan_machine.specs.Rules.{HasWords, HasConstants, AreBounds, takes, gives};
-ghost use Rattle.scan_machine.specs.Machine.{does, load_at, noted_all, words_at, with_words};
+ghost use Rattle.scan_machine.specs.Machine.{does, is_past, load_at, noted_all, words_at, with_words};
 
 use crate::instructions::Instr;
-use crate::numbers::is_past;
 use crate::operations::operate;
-use crate::stack::Operands;
+use crate::stack::{Places, pop, pop_two, push};
 use function_blocks::{BlockKind, Kind, bounded, clamp_to, field_count, is_on, step_block};
 use tri_base::Touched;
 
@@ -27,26 +26,28 @@ pub(crate) fn step(
     index: usize,
     words: &mut [i64],
     touched: &mut Touched,
-    stack: &mut Operands,
+    places: &mut Places,
+    depth: &mut usize,
     flag: &mut bool,
 ) -> usize
     requires words { HasWords (length words.old) instr.now }
     requires constants { HasConstants instr.now }
-    requires operands { takes instr.now ≤ length stack.old }
-    requires room { length stack.old + gives instr.now ≤ 1024 + takes instr.now }
-    requires held { length stack.old ≤ 1024 }
+    requires operands { takes instr.now ≤ depth.old }
+    requires room { depth.old + gives instr.now ≤ 1024 + takes instr.now }
+    requires held { depth.old ≤ 1024 }
     requires index { index < 2 ^ 63 }
     requires from { pos 0 ≤ℤ dt }
     requires to { dt ≤ℤ pos 10_000 }
     requires touched { length words.old ≤ touched.old.size }
-    ensures value { does dt instr.now (record { index = index; stack = stack.old; words = words.old; flag = flag.old; stores = touched.old.pairs }) ≡ Some (record { index = result; stack = stack.new; words = words.new; flag = flag.new; stores = touched.new.pairs }) }
-    ensures depth { length stack.new + takes instr.now ≡ length stack.old + gives instr.now }
+    ensures value { does dt instr.now (here index places.old depth.old words.old flag.old touched.old)
+        ≡ Some (here result places.new depth.new words.new flag.new touched.new) }
+    ensures depth { depth.new + takes instr.now ≡ depth.old + gives instr.now }
     ensures size { touched.new.size ≡ touched.old.size }
 {
     match *instr {
         Instr::Jump(target) => target,
         Instr::JumpFalse(target) => {
-            if is_on(stack.pop()) {
+            if is_on(pop(places, depth)) {
                 index + 1
             } else {
                 target
@@ -68,10 +69,18 @@ pub(crate) fn step(
             }
         }
         _ => {
-            act(instr, dt, words, touched, stack, flag);
+            act(instr, dt, words, touched, places, depth, flag);
             index + 1
         }
     }
+}
+
+// Whether a sum is past the last value, in the direction of the step.
+#[inline(always)]
+fn is_past(step: i64, last: i64, sum: i64) -> bool
+    ensures { result ≡ is_past step last sum }
+{
+    if step > 0 { sum > last } else { sum < last }
 }
 
 // Does one instruction that the next one in the code always follows.
@@ -81,27 +90,30 @@ fn act(
     dt: i64,
     words: &mut [i64],
     touched: &mut Touched,
-    stack: &mut Operands,
+    places: &mut Places,
+    depth: &mut usize,
     flag: &mut bool,
 )
     requires goes_on { GoesOn instr.now }
     requires words { HasWords (length words.old) instr.now }
     requires constants { HasConstants instr.now }
-    requires operands { takes instr.now ≤ length stack.old }
-    requires room { length stack.old + gives instr.now ≤ 1024 + takes instr.now }
-    requires held { length stack.old ≤ 1024 }
+    requires operands { takes instr.now ≤ depth.old }
+    requires room { depth.old + gives instr.now ≤ 1024 + takes instr.now }
+    requires held { depth.old ≤ 1024 }
     requires from { pos 0 ≤ℤ dt }
     requires to { dt ≤ℤ pos 10_000 }
     requires touched { length words.old ≤ touched.old.size }
-    ensures value { (index : ℕ) → does dt instr.now (record { index = index; stack = stack.old; words = words.old; flag = flag.old; stores = touched.old.pairs }) ≡ Some (record { index = index + 1; stack = stack.new; words = words.new; flag = flag.new; stores = touched.new.pairs }) }
-    ensures depth { length stack.new + takes instr.now ≡ length stack.old + gives instr.now }
+    ensures value { (index : ℕ)
+        → does dt instr.now (here index places.old depth.old words.old flag.old touched.old)
+        ≡ Some (here (index + 1) places.new depth.new words.new flag.new touched.new) }
+    ensures depth { depth.new + takes instr.now ≡ depth.old + gives instr.now }
     ensures size { touched.new.size ≡ touched.old.size }
 {
     match *instr {
-        Instr::Push(value) => stack.push(value),
-        Instr::Load(address, kind) => stack.push(clamp_to(kind, words[address])),
+        Instr::Push(value) => push(places, depth, value),
+        Instr::Load(address, kind) => push(places, depth, clamp_to(kind, words[address])),
         Instr::Store(address, kind) => {
-            let value = clamp_to(kind, stack.pop());
+            let value = clamp_to(kind, pop(places, depth));
             store(words, touched, address, value)
         }
         Instr::LoadAt {
@@ -110,7 +122,7 @@ fn act(
             low,
             high,
         } => {
-            let clamped = load_at(address, kind, low, high, words, stack);
+            let clamped = load_at(address, kind, low, high, words, places, depth);
             raise(flag, clamped)
         }
         Instr::StoreAt {
@@ -119,11 +131,11 @@ fn act(
             low,
             high,
         } => {
-            let clamped = store_at(address, kind, low, high, words, touched, stack);
+            let clamped = store_at(address, kind, low, high, words, touched, places, depth);
             raise(flag, clamped)
         }
         Instr::Call(kind, address) => call(kind, address, dt, words, touched),
-        _ => raise(flag, operate(instr, stack)),
+        _ => raise(flag, operate(instr, places, depth)),
     }
 }
 
@@ -138,27 +150,32 @@ fn raise(flag: &mut bool, clamped: bool)
 }
 
 // Pushes the element at the index on top, and says whether the index was clamped.
+#[inline(always)]
 fn load_at(
     address: usize,
     kind: Kind,
     low: i64,
     high: i64,
     words: &[i64],
-    stack: &mut Operands,
+    places: &mut Places,
+    depth: &mut usize,
 ) -> bool
     requires bounds { AreBounds low high }
     requires place { address + unsigned_abs (high -ℤ low) < length words.now }
-    requires operand { 0 < length stack.old }
-    requires room { length stack.old ≤ 1024 }
-    ensures value { load_at words.now address kind low high stack.old ≡ Some (record { stack = stack.new; flag = result }) }
-    ensures depth { length stack.new ≡ length stack.old }
+    requires operand { 0 < depth.old }
+    requires room { depth.old ≤ 1024 }
+    ensures value { load_at words.now address kind low high (waiting places.old depth.old)
+        ≡ Some (record { stack = waiting places.new depth.new; flag = result }) }
+    ensures depth { depth.new ≡ depth.old }
 {
-    let index = bounded(low, high, stack.pop());
-    stack.push(clamp_to(kind, words[element(address, low, index.value)]));
+    let index = bounded(low, high, pop(places, depth));
+    let word = words[element(address, low, index.value)];
+    push(places, depth, clamp_to(kind, word));
     index.flag
 }
 
 // Stores the number on top at the index below it, and says whether the index was clamped.
+#[inline(always)]
 fn store_at(
     address: usize,
     kind: Kind,
@@ -166,18 +183,24 @@ fn store_at(
     high: i64,
     words: &mut [i64],
     touched: &mut Touched,
-    stack: &mut Operands,
+    places: &Places,
+    depth: &mut usize,
 ) -> bool
     requires bounds { AreBounds low high }
     requires place { address + unsigned_abs (high -ℤ low) < length words.old }
-    requires operands { 2 ≤ length stack.old }
+    requires operands { 2 ≤ depth.old }
+    requires held { depth.old ≤ 1024 }
     requires size { length words.old ≤ touched.old.size }
-    ensures value { StoresAt address kind low high stack.old words.old touched.old.pairs stack.new words.new result touched.new.pairs }
-    ensures depth { length stack.new + 2 ≡ length stack.old }
+    ensures value { (dt : ℤ) → (index : ℕ) → (was : Bool)
+        → does dt (Instr.StoreAt address kind low high)
+        (here index places.now depth.old words.old was touched.old)
+        ≡ Some (here (index + 1) places.now depth.new words.new (was || result) touched.new) }
+    ensures depth { depth.new + 2 ≡ depth.old }
     ensures size { touched.new.size ≡ touched.old.size }
 {
-    let value = clamp_to(kind, stack.pop());
-    let index = bounded(low, high, stack.pop());
+    let (index, value) = pop_two(places, depth);
+    let index = bounded(low, high, index);
+    let value = clamp_to(kind, value);
     store(words, touched, element(address, low, index.value), value);
     index.flag
 }
@@ -188,13 +211,15 @@ fn store(words: &mut [i64], touched: &mut Touched, address: usize, value: i64)
     requires place { address < length words.old }
     requires size { length words.old ≤ touched.old.size }
     ensures words { words.new ≡ slice_set words.old address value }
-    ensures touched { touched.new ≡ record touched.old { pairs = noted address (slice_index_or words.old address (pos 0)) touched.old.pairs } }
+    ensures touched { let before = slice_index_or words.old address (pos 0) in
+        touched.new ≡ record touched.old { pairs = noted address before touched.old.pairs } }
 {
     touched.note(address, words[address]);
     words[address] = value;
 }
 
 // The word of an element, at an index that lies within the bounds.
+#[inline(always)]
 fn element(address: usize, low: i64, index: i64) -> usize
     requires { address + unsigned_abs (index -ℤ low) < 2 ^ 63 }
     ensures { result ≡ element address low index }
@@ -203,13 +228,16 @@ fn element(address: usize, low: i64, index: i64) -> usize
 }
 
 // One call of a block, whose words are all noted.
+#[inline(never)]
 fn call(kind: BlockKind, address: usize, dt: i64, words: &mut [i64], touched: &mut Touched)
     requires place { address + field_count kind ≤ length words.old }
     requires from { pos 0 ≤ℤ dt }
     requires to { dt ≤ℤ pos 10_000 }
     requires size { length words.old ≤ touched.old.size }
-    ensures words { words.new ≡ with_words words.old address (step_block kind dt (words_at words.old address (field_count kind))) }
-    ensures touched { touched.new ≡ record touched.old { pairs = noted_all address (words_at words.old address (field_count kind)) touched.old.pairs } }
+    ensures words { let fields = words_at words.old address (field_count kind) in
+        words.new ≡ with_words words.old address (step_block kind dt fields) }
+    ensures touched { let fields = words_at words.old address (field_count kind) in
+        touched.new ≡ record touched.old { pairs = noted_all address fields touched.old.pairs } }
 {
     let end = address + field_count(kind);
     note_all(&words[address..end], address, touched);

@@ -1,185 +1,192 @@
-// The instructions that work on operands alone.
+// The instructions that work on operands alone. Each says whether a number was clamped. One `match`
+// after the other names each instruction once, so that together they are one choice.
 
-ghost use Rattle.std.specs.Prelude.{◌≡◌, ◌≤◌, ◌+◌, ◌-◌, ℤ, List, [], ◌∷◌, Some, length};
-ghost use Rattle.scan_machine.specs.Rules.{takes, gives};
-ghost use Rattle.scan_machine.specs.Machine.{operate, on_top, answer, one_operand};
-ghost use Rattle.scan_machine.specs.Inner.Groups.{IsArithmetic, IsTest, IsBinary, IsUnary, IsTernary, IsOperation};
-ghost use Rattle.function_blocks.specs.Values.{IsOperand};
-ghost use Rattle.std.specs.Prelude.{◌&&◌};
-ghost use Rattle.std.specs.Int.{int_max, int_min};
-ghost use Rattle.std.specs.Int.RustNames.{int_le};
+ghost use Rattle.std.specs.Prelude.{◌≡◌, ◌<◌, ◌≤◌, ◌+◌, Some, length};
+ghost use Rattle.scan_machine.specs.Rules.{takes};
+ghost use Rattle.scan_machine.specs.Machine.{operate};
+ghost use Rattle.scan_machine.specs.Inner.Groups.{IsOperation, IsTwoOperand, IsTest, IsComparison};
+ghost use Rattle.scan_machine.specs.Inner.Waiting.{waiting};
 
 use crate::instructions::Instr;
-use crate::stack::Operands;
-use function_blocks::{Computed, exact, is_on, quotient, remainder};
+use crate::stack::{Places, pop, pop_two, push, push_computed, push_truth};
+use function_blocks::{exact, is_on, quotient, remainder};
 
-/// Does an instruction that works on operands alone, and says whether a number was clamped.
-#[inline]
-pub(crate) fn operate(instr: &Instr, stack: &mut Operands) -> bool
+/// Does an instruction that works on operands alone.
+#[inline(always)]
+pub(crate) fn operate(instr: &Instr, places: &mut Places, depth: &mut usize) -> bool
     requires kind { IsOperation instr.now }
-    requires operands { takes instr.now ≤ length stack.old }
-    requires room { length stack.old ≤ 1024 }
-    ensures value { operate instr.now stack.old ≡ Some (record { stack = stack.new; flag = result }) }
-    ensures depth { length stack.new + takes instr.now ≡ length stack.old + 1 }
-{
-    match instr {
-        Instr::Limit | Instr::Select => {
-            let z = stack.pop();
-            let y = stack.pop();
-            let x = stack.pop();
-            push_computed(stack, ternary(instr, x, y, z))
-        }
-        Instr::Neg(_) | Instr::Abs(_) | Instr::Convert(_) | Instr::Not | Instr::Within(..) => {
-            let x = stack.pop();
-            push_computed(stack, unary(instr, x))
-        }
-        _ => {
-            let y = stack.pop();
-            let x = stack.pop();
-            push_computed(stack, binary(instr, x, y))
-        }
-    }
-}
-
-// Pushes a computed number, and says whether it was clamped.
-#[inline]
-fn push_computed(stack: &mut Operands, computed: Computed) -> bool
-    requires room { length stack.old + 1 ≤ 1024 }
-    requires operand { IsOperand computed.value }
-    ensures stack { stack.new ≡ computed.value ∷ stack.old }
-    ensures flag { result ≡ computed.flag }
-{
-    stack.push(computed.value);
-    computed.flag
-}
-
-// What two operands give.
-#[inline]
-fn binary(instr: &Instr, x: i64, y: i64) -> Computed
-    requires kind { IsBinary instr.now }
-    requires x { IsOperand x }
-    requires y { IsOperand y }
-    ensures value { (below : List ℤ) → operate instr.now (y ∷ x ∷ below) ≡ on_top result below }
-    ensures operand { IsOperand result.value }
-{
-    match instr {
-        Instr::Add(_) | Instr::Sub(_) | Instr::Mul(_) | Instr::Div(_) => arithmetic(instr, x, y),
-        Instr::Mod(_) | Instr::Min(_) | Instr::Max(_) => arithmetic(instr, x, y),
-        _ => truth(holds(instr, x, y)),
-    }
-}
-
-// A number of two operands.
-#[inline]
-fn arithmetic(instr: &Instr, x: i64, y: i64) -> Computed
-    requires kind { IsArithmetic instr.now }
-    requires x { IsOperand x }
-    requires y { IsOperand y }
-    ensures value { (below : List ℤ) → operate instr.now (y ∷ x ∷ below) ≡ on_top result below }
-    ensures operand { IsOperand result.value }
+    requires operands { takes instr.now ≤ depth.old }
+    requires within { depth.old ≤ 1024 }
+    ensures value { operate instr.now (waiting places.old depth.old)
+        ≡ Some (record { stack = waiting places.new depth.new; flag = result }) }
+    ensures depth { depth.new + takes instr.now ≡ depth.old + 1 }
 {
     match *instr {
-        Instr::Add(kind) => exact(kind, x + y),
-        Instr::Sub(kind) => exact(kind, x - y),
-        Instr::Mul(kind) => exact(kind, x * y),
-        Instr::Div(kind) => quotient(kind, x, y),
-        Instr::Mod(kind) => remainder(kind, x, y),
-        Instr::Min(kind) => exact(kind, x.min(y)),
-        Instr::Max(kind) => exact(kind, x.max(y)),
-        _ => unreachable!(),
+        Instr::Neg(kind) => {
+            let x = pop(places, depth);
+            push_computed(places, depth, exact(kind, -x))
+        }
+        Instr::Abs(kind) => {
+            let x = pop(places, depth);
+            push_computed(places, depth, exact(kind, x.abs()))
+        }
+        Instr::Convert(kind) => {
+            let x = pop(places, depth);
+            push_computed(places, depth, exact(kind, x))
+        }
+        Instr::Not => {
+            let x = pop(places, depth);
+            push_truth(places, depth, !is_on(x))
+        }
+        Instr::Within(low, high) => {
+            let x = pop(places, depth);
+            push_truth(places, depth, low <= x && x <= high)
+        }
+        Instr::Limit => limit(places, depth),
+        Instr::Select => select(places, depth),
+        _ => compute(instr, places, depth),
     }
 }
 
-// Whether two operands are as the instruction asks.
-#[inline]
-fn holds(instr: &Instr, x: i64, y: i64) -> bool
-    requires { IsTest instr.now }
-    ensures { (below : List ℤ) → operate instr.now (y ∷ x ∷ below) ≡ answer result below }
+// Limits an operand to two others.
+#[inline(always)]
+fn limit(places: &mut Places, depth: &mut usize) -> bool
+    requires operands { 3 ≤ depth.old }
+    requires within { depth.old ≤ 1024 }
+    ensures value { operate Instr.Limit (waiting places.old depth.old)
+        ≡ Some (record { stack = waiting places.new depth.new; flag = result }) }
+    ensures depth { depth.new + 2 ≡ depth.old }
 {
-    match instr {
-        Instr::And => x != 0 && y != 0,
-        Instr::Or => x != 0 || y != 0,
-        Instr::Xor => (x != 0) != (y != 0),
-        Instr::Eq => x == y,
-        Instr::Ne => x != y,
-        Instr::Lt => x < y,
-        Instr::Gt => x > y,
-        Instr::Le => x <= y,
-        Instr::Ge => x >= y,
-        _ => unreachable!(),
-    }
+    let (value, greatest) = pop_two(places, depth);
+    let least = pop(places, depth);
+    push(places, depth, value.max(least).min(greatest));
+    false
 }
 
-// A number of one operand.
-#[inline]
-fn unary(instr: &Instr, x: i64) -> Computed
-    requires kind { IsUnary instr.now }
-    requires x { IsOperand x }
-    ensures value { (below : List ℤ) → operate instr.now (x ∷ below) ≡ on_top result below }
-    ensures operand { IsOperand result.value }
+// Selects one of two operands by a third.
+#[inline(always)]
+fn select(places: &mut Places, depth: &mut usize) -> bool
+    requires operands { 3 ≤ depth.old }
+    requires within { depth.old ≤ 1024 }
+    ensures value { operate Instr.Select (waiting places.old depth.old)
+        ≡ Some (record { stack = waiting places.new depth.new; flag = result }) }
+    ensures depth { depth.new + 2 ≡ depth.old }
+{
+    let (first, second) = pop_two(places, depth);
+    let chosen = if is_on(pop(places, depth)) {
+        second
+    } else {
+        first
+    };
+    push(places, depth, chosen);
+    false
+}
+
+// Computes a number of two operands.
+#[inline(always)]
+fn compute(instr: &Instr, places: &mut Places, depth: &mut usize) -> bool
+    requires kind { IsTwoOperand instr.now }
+    requires operands { 2 ≤ depth.old }
+    requires within { depth.old ≤ 1024 }
+    ensures value { operate instr.now (waiting places.old depth.old)
+        ≡ Some (record { stack = waiting places.new depth.new; flag = result }) }
+    ensures depth { depth.new + 1 ≡ depth.old }
 {
     match *instr {
-        Instr::Neg(kind) => exact(kind, -x),
-        Instr::Abs(kind) => exact(kind, x.abs()),
-        Instr::Convert(kind) => exact(kind, x),
-        Instr::Not => truth(!is_on(x)),
-        Instr::Within(low, high) => truth(lies(low, x, high)),
+        Instr::Add(kind) => {
+            let (x, y) = pop_two(places, depth);
+            push_computed(places, depth, exact(kind, x + y))
+        }
+        Instr::Sub(kind) => {
+            let (x, y) = pop_two(places, depth);
+            push_computed(places, depth, exact(kind, x - y))
+        }
+        Instr::Mul(kind) => {
+            let (x, y) = pop_two(places, depth);
+            push_computed(places, depth, exact(kind, x * y))
+        }
+        Instr::Div(kind) => {
+            let (x, y) = pop_two(places, depth);
+            push_computed(places, depth, quotient(kind, x, y))
+        }
+        Instr::Mod(kind) => {
+            let (x, y) = pop_two(places, depth);
+            push_computed(places, depth, remainder(kind, x, y))
+        }
+        Instr::Min(kind) => {
+            let (x, y) = pop_two(places, depth);
+            push_computed(places, depth, exact(kind, x.min(y)))
+        }
+        Instr::Max(kind) => {
+            let (x, y) = pop_two(places, depth);
+            push_computed(places, depth, exact(kind, x.max(y)))
+        }
+        _ => test(instr, places, depth),
+    }
+}
+
+// Asks something of the truth of two operands.
+#[inline(always)]
+fn test(instr: &Instr, places: &mut Places, depth: &mut usize) -> bool
+    requires kind { IsTest instr.now }
+    requires operands { 2 ≤ depth.old }
+    requires within { depth.old ≤ 1024 }
+    ensures value { operate instr.now (waiting places.old depth.old)
+        ≡ Some (record { stack = waiting places.new depth.new; flag = result }) }
+    ensures depth { depth.new + 1 ≡ depth.old }
+{
+    match *instr {
+        Instr::And => {
+            let (x, y) = pop_two(places, depth);
+            push_truth(places, depth, is_on(x) && is_on(y))
+        }
+        Instr::Or => {
+            let (x, y) = pop_two(places, depth);
+            push_truth(places, depth, is_on(x) || is_on(y))
+        }
+        Instr::Xor => {
+            let (x, y) = pop_two(places, depth);
+            push_truth(places, depth, is_on(x) != is_on(y))
+        }
+        _ => compare(instr, places, depth),
+    }
+}
+
+// Compares two operands.
+#[inline(always)]
+fn compare(instr: &Instr, places: &mut Places, depth: &mut usize) -> bool
+    requires kind { IsComparison instr.now }
+    requires operands { 2 ≤ depth.old }
+    requires within { depth.old ≤ 1024 }
+    ensures value { operate instr.now (waiting places.old depth.old)
+        ≡ Some (record { stack = waiting places.new depth.new; flag = result }) }
+    ensures depth { depth.new + 1 ≡ depth.old }
+{
+    match *instr {
+        Instr::Eq => {
+            let (x, y) = pop_two(places, depth);
+            push_truth(places, depth, x == y)
+        }
+        Instr::Ne => {
+            let (x, y) = pop_two(places, depth);
+            push_truth(places, depth, x != y)
+        }
+        Instr::Lt => {
+            let (x, y) = pop_two(places, depth);
+            push_truth(places, depth, x < y)
+        }
+        Instr::Gt => {
+            let (x, y) = pop_two(places, depth);
+            push_truth(places, depth, x > y)
+        }
+        Instr::Le => {
+            let (x, y) = pop_two(places, depth);
+            push_truth(places, depth, x <= y)
+        }
+        Instr::Ge => {
+            let (x, y) = pop_two(places, depth);
+            push_truth(places, depth, x >= y)
+        }
         _ => unreachable!(),
     }
-}
-
-// Whether a number lies between two others.
-fn lies(low: i64, x: i64, high: i64) -> bool
-    ensures { result ≡ int_le low x && int_le x high }
-{
-    low <= x && x <= high
-}
-
-// 1 or 0.
-#[inline]
-fn truth(value: bool) -> Computed
-    ensures value { (below : List ℤ) → answer value below ≡ on_top result below }
-    ensures operand { IsOperand result.value }
-{
-    Computed {
-        value: i64::from(value),
-        flag: false,
-    }
-}
-
-// A number of three operands.
-#[inline]
-fn ternary(instr: &Instr, x: i64, y: i64, z: i64) -> Computed
-    requires kind { IsTernary instr.now }
-    requires x { IsOperand x }
-    requires y { IsOperand y }
-    requires z { IsOperand z }
-    ensures value { (below : List ℤ) → operate instr.now (z ∷ y ∷ x ∷ below) ≡ on_top result below }
-    ensures operand { IsOperand result.value }
-{
-    match instr {
-        Instr::Limit => plain(limited(x, y, z)),
-        Instr::Select => { if is_on(x) { plain(z) } else { plain(y) } }
-        _ => unreachable!(),
-    }
-}
-
-// The middle number, limited to the other two.
-fn limited(least: i64, value: i64, greatest: i64) -> i64
-    requires least { IsOperand least }
-    requires value { IsOperand value }
-    requires greatest { IsOperand greatest }
-    ensures value { result ≡ int_min (int_max value least) greatest }
-    ensures operand { IsOperand result }
-{
-    value.max(least).min(greatest)
-}
-
-// A number that is not clamped.
-fn plain(value: i64) -> Computed
-    requires { IsOperand value }
-    ensures value { (below : List ℤ) → one_operand value below ≡ on_top result below }
-    ensures operand { IsOperand result.value }
-{
-    Computed { value, flag: false }
 }

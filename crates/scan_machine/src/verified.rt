@@ -104,14 +104,14 @@ fn keeps(code: &[Instr], place: usize, words: usize, depth: usize, rule: CodeRul
     }
 }
 
-// The first rule that an instruction breaks, where so many operands wait before it; they may wait at
-// a target.
+// The first rule that an instruction breaks, where so many operands wait before it; they may wait
+// at a target.
 fn broken_rule(code: &[Instr], place: usize, words: usize, depth: usize) -> Option<CodeRule>
     requires place { place < length code.now }
     requires targets { HaveTargets code.now place }
     requires depth { depth ≡ depth_at code.now place }
     requires room { depth ≤ 1024 }
-    ensures { MatchOption result (IsSoundAt code.now words place) (λ cause. IsBrokenAt code.now words place cause) }
+    ensures { MatchOption result (IsSoundAt code.now words place) (IsBrokenAt code.now words place) }
 {
     if !keeps(code, place, words, depth, CodeRule::Address) {
         Some(CodeRule::Address)
@@ -130,7 +130,8 @@ fn broken_rule(code: &[Instr], place: usize, words: usize, depth: usize) -> Opti
 
 // The first broken rule at the first place that breaks one; operands may wait at a target.
 fn first_alone(code: &[Instr], words: usize) -> Option<BadCode>
-    ensures { MatchOption result (AreSoundBelow code.now words (length code.now + 1)) (λ bad. IsFirstAlone code.now words bad) }
+    ensures { let all = AreSoundBelow code.now words (length code.now + 1) in
+        MatchOption result all (IsFirstAlone code.now words) }
 {
     let mut depth = 0;
     for index in 0..code.len() {
@@ -161,7 +162,7 @@ fn is_before_depth(rule: CodeRule) -> bool
 
 // The first broken rule at the first place that breaks one.
 fn first_fault(code: &[Instr], words: usize) -> Option<BadCode>
-    ensures { MatchOption result (IsVerified code.now words) (λ bad. IsFirstBroken code.now words bad) }
+    ensures { MatchOption result (IsVerified code.now words) (IsFirstBroken code.now words) }
 {
     match first_alone(code, words) {
         Some(bad) => Some(with_targets(code, words, bad)),

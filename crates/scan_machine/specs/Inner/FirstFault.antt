@@ -18,7 +18,8 @@ HaveDepths code place = (at : ℕ) → at < place → IfSome (slice_get code at)
 -- the place keeps the rule, but that operands may wait at a target
 abbrev pub KeepsAlone : List Instr → ℕ → ℕ → CodeRule → Type 0
 KeepsAlone code words place rule.Depth =
-    IfSome (slice_get code place) (HasDepth (depth_at code place)) × (place ≡ length code → depth_at code place ≡ 0)
+    IfSome (slice_get code place) (HasDepth (depth_at code place))
+    × (place ≡ length code → depth_at code place ≡ 0)
 KeepsAlone code words place rule.Address = Keeps code words place rule.Address
 KeepsAlone code words place rule.Constant = Keeps code words place rule.Constant
 KeepsAlone code words place rule.Target = Keeps code words place rule.Target
@@ -49,7 +50,8 @@ HaveEmptyTargets code place = (target : ℕ) → target < place → IsTarget cod
 
 -- the instruction at a place names no target before the bound at which an operand waits
 abbrev pub NamesEmpty : List Instr → ℕ → ℕ → Type 0
-NamesEmpty code bound place = (target : ℕ) → target < bound → NamesTarget code place target → depth_at code target ≡ 0
+NamesEmpty code bound place =
+    (target : ℕ) → target < bound → NamesTarget code place target → depth_at code target ≡ 0
 
 -- a target at which an operand waits
 pub record IsLoaded (code : List Instr) (target : ℕ) : Type 0 where

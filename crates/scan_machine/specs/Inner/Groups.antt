@@ -1,19 +1,17 @@
 -- Nobody has to believe what stands here: it serves private functions alone.
 -- The instructions by what the machine's functions do with them.
-use Rattle.std.specs.Prelude.{◌⊎◌}
 use Rattle.scan_machine.specs.declared.instructions.Instr.{Instr}
 use Rattle.scan_machine.specs.declared.instructions.Instr.TheVariants as i
 
--- those that compute a number of two operands
-abbrev pub IsArithmetic : Instr → Type 0
-IsArithmetic (i.Add kind) = Unit {0}
-IsArithmetic (i.Sub kind) = Unit {0}
-IsArithmetic (i.Mul kind) = Unit {0}
-IsArithmetic (i.Div kind) = Unit {0}
-IsArithmetic (i.Mod kind) = Unit {0}
-IsArithmetic (i.Min kind) = Unit {0}
-IsArithmetic (i.Max kind) = Unit {0}
-IsArithmetic _ = ⊥
+-- those that compare two operands
+abbrev pub IsComparison : Instr → Type 0
+IsComparison i.Eq = Unit {0}
+IsComparison i.Ne = Unit {0}
+IsComparison i.Lt = Unit {0}
+IsComparison i.Gt = Unit {0}
+IsComparison i.Le = Unit {0}
+IsComparison i.Ge = Unit {0}
+IsComparison _ = ⊥
 
 -- those that ask something of two operands
 abbrev pub IsTest : Instr → Type 0
@@ -28,24 +26,25 @@ IsTest i.Le = Unit {0}
 IsTest i.Ge = Unit {0}
 IsTest _ = ⊥
 
--- both of these
-abbrev pub IsBinary : Instr → Type 0
-IsBinary instr = IsArithmetic instr ⊎ IsTest instr
-
--- those with one operand
-abbrev pub IsUnary : Instr → Type 0
-IsUnary (i.Neg kind) = Unit {0}
-IsUnary (i.Abs kind) = Unit {0}
-IsUnary (i.Convert kind) = Unit {0}
-IsUnary i.Not = Unit {0}
-IsUnary (i.Within low high) = Unit {0}
-IsUnary _ = ⊥
-
--- those with three
-abbrev pub IsTernary : Instr → Type 0
-IsTernary i.Limit = Unit {0}
-IsTernary i.Select = Unit {0}
-IsTernary _ = ⊥
+-- those with two operands
+abbrev pub IsTwoOperand : Instr → Type 0
+IsTwoOperand (i.Add kind) = Unit {0}
+IsTwoOperand (i.Sub kind) = Unit {0}
+IsTwoOperand (i.Mul kind) = Unit {0}
+IsTwoOperand (i.Div kind) = Unit {0}
+IsTwoOperand (i.Mod kind) = Unit {0}
+IsTwoOperand (i.Min kind) = Unit {0}
+IsTwoOperand (i.Max kind) = Unit {0}
+IsTwoOperand i.And = Unit {0}
+IsTwoOperand i.Or = Unit {0}
+IsTwoOperand i.Xor = Unit {0}
+IsTwoOperand i.Eq = Unit {0}
+IsTwoOperand i.Ne = Unit {0}
+IsTwoOperand i.Lt = Unit {0}
+IsTwoOperand i.Gt = Unit {0}
+IsTwoOperand i.Le = Unit {0}
+IsTwoOperand i.Ge = Unit {0}
+IsTwoOperand _ = ⊥
 
 -- the next instruction in the code always follows
 abbrev pub GoesOn : Instr → Type 0

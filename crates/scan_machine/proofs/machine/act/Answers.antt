@@ -6,6 +6,7 @@ use Rattle.function_blocks.specs.Fields.{field_count}
 use Rattle.scan_machine.specs.Rules.{AreBounds, HasConstants}
 use Rattle.scan_machine.specs.Inner.Reaches.{reach}
 use Rattle.scan_machine.specs.Machine.{State, does}
+use Rattle.scan_machine.specs.Inner.Waiting.{waiting}
 use Rattle.scan_machine.proofs.Reaches.{reach_there, array_there, is_operation}
 use Rattle.scan_machine.proofs.Calling.{fields_some}
 use Rattle.scan_machine.proofs.Turning.{stored_element}
@@ -57,7 +58,7 @@ operate-requires c =
     record {
       kind = is_operation c.args.instr.now c.requires.goes_on n.not-Push n.not-Load n.not-Store n.not-LoadAt n.not-StoreAt n.not-Call;
       operands = c.requires.operands;
-      room = c.requires.held;
+      within = c.requires.held;
     }
 
 pub returns-in-StoreAt-clause-value : goal.returns-in-StoreAt-clause-value
@@ -65,7 +66,7 @@ returns-in-StoreAt-clause-value c index =
     let n = c.in-StoreAt in let done = c.store_at-clamped in
     let el : to_z w64 (of_z w64 n.low) ≡ n.low = omega (arith, ints) in
     let eh : to_z w64 (of_z w64 n.high) ≡ n.high = omega (arith, ints) in
-    let s : ℕ → State = λ index. record { index = index; stack = c.args.stack.now; words = c.args.words.now; flag = c.args.flag.now; stores = c.args.touched.now.pairs } in
+    let s : ℕ → State = λ index. record { index = index; stack = waiting c.args.places.now c.args.depth.now; words = c.args.words.now; flag = c.args.flag.now; stores = c.args.touched.now.pairs } in
     ap (λ (m : Instr). does c.args.dt m (s index)) n.is
-    ∙ stored_element n.address n.kind n.low n.high c.args.stack.now [] done.new.stack c.args.words.now done.new.words c.args.touched.now.pairs done.new.touched.pairs (pos 0) (pos 0)
-    c.args.dt index c.args.flag.now c.raise-in-StoreAt.new.flag done.result (to_z w64 (of_z w64 n.low)) (to_z w64 (of_z w64 n.high)) el eh done.ensures.value c.raise-in-StoreAt.ensures
+    ∙ stored_element n.address n.kind n.low n.high (waiting c.args.places.now c.args.depth.now) [] (waiting c.args.places.now done.new.depth) c.args.words.now done.new.words c.args.touched.now.pairs done.new.touched.pairs (pos 0) (pos 0)
+    c.args.dt index c.args.flag.now c.raise-in-StoreAt.new.flag done.result (to_z w64 (of_z w64 n.low)) (to_z w64 (of_z w64 n.high)) el eh (done.ensures.value c.args.dt) c.raise-in-StoreAt.ensures

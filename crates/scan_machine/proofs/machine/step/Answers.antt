@@ -8,6 +8,7 @@ use Rattle.function_blocks.specs.Values.{clamped}
 use Rattle.scan_machine.specs.Rules.{HasConstants}
 use Rattle.scan_machine.specs.Inner.Reaches.{reach}
 use Rattle.scan_machine.specs.Machine.{State, read, does}
+use Rattle.scan_machine.specs.Inner.Waiting.{waiting}
 use Rattle.scan_machine.proofs.Reaches.{reach_there, goes_on}
 use Rattle.scan_machine.proofs.Turns.{within_dint}
 use Rattle.scan_machine.proofs.Turning.{next_left, next_back}
@@ -37,9 +38,9 @@ returns-then-is_past-clause-value c =
     let e : to_z w64 (of_z w64 n.step) ≡ n.step = omega (arith, ints) in
     let f : to_z w64 (of_z w64 n.last) ≡ n.last = omega (arith, ints) in
     let g : to_z w64 (of_z w64 (to_z w64 (of_z w64 r) +ℤ to_z w64 (of_z w64 n.step))) ≡ r +ℤ n.step = omega (arith, ints, small.0, small.1, c.clamp_to.ensures.operand) in
-    let s : State = record { index = c.args.index; stack = c.args.stack.now; words = c.args.words.now; flag = c.args.flag.now; stores = c.args.touched.now.pairs } in
+    let s : State = record { index = c.args.index; stack = waiting c.args.places.now c.args.depth.now; words = c.args.words.now; flag = c.args.flag.now; stores = c.args.touched.now.pairs } in
     ap (λ (m : Instr). does c.args.dt m s) n.is
-    ∙ next_left c.args.dt c.args.index c.args.stack.now c.args.words.now c.args.flag.now c.args.touched.now.pairs n.address n.kind n.step n.last n.back
+    ∙ next_left c.args.dt c.args.index (waiting c.args.places.now c.args.depth.now) c.args.words.now c.args.flag.now c.args.touched.now.pairs n.address n.kind n.step n.last n.back
     c.is_past.result _ _ _ c.is_past.ensures e f (g ∙ ap (λ z. z +ℤ n.step) is) c.if-is_past.true
 
 pub returns-else-is_past-clause-value : goal.returns-else-is_past-clause-value
@@ -53,9 +54,9 @@ returns-else-is_past-clause-value c =
     let e : to_z w64 (of_z w64 n.step) ≡ n.step = omega (arith, ints) in
     let f : to_z w64 (of_z w64 n.last) ≡ n.last = omega (arith, ints) in
     let g : to_z w64 (of_z w64 (to_z w64 (of_z w64 r) +ℤ to_z w64 (of_z w64 n.step))) ≡ r +ℤ n.step = omega (arith, ints, small.0, small.1, c.clamp_to.ensures.operand) in
-    let s : State = record { index = c.args.index; stack = c.args.stack.now; words = c.args.words.now; flag = c.args.flag.now; stores = c.args.touched.now.pairs } in
+    let s : State = record { index = c.args.index; stack = waiting c.args.places.now c.args.depth.now; words = c.args.words.now; flag = c.args.flag.now; stores = c.args.touched.now.pairs } in
     ap (λ (m : Instr). does c.args.dt m s) n.is
-    ∙ next_back c.args.dt c.args.index c.args.stack.now c.args.words.now c.args.flag.now c.args.touched.now.pairs n.address n.kind n.step n.last n.back
+    ∙ next_back c.args.dt c.args.index (waiting c.args.places.now c.args.depth.now) c.args.words.now c.args.flag.now c.args.touched.now.pairs n.address n.kind n.step n.last n.back
     c.is_past.result _ _ _ c.is_past.ensures e f (g ∙ ap (λ z. z +ℤ n.step) is)
     put.new.words put.new.touched.pairs c.if-is_past.false put.ensures.words (ap (λ (t : TouchedValue). t.pairs) put.ensures.touched)
 

@@ -2,8 +2,10 @@ use Rattle.std.proofs.Common.{◌≡◌, ◌+◌, pos, length, get_or, to_z, of_
 use Rattle.std.proofs.lemmas.Int.{ints}
 use Rattle.scan_machine.specs.declared.instructions.Instr.{Instr}
 use Rattle.scan_machine.specs.declared.instructions.Instr.TheVariants.{Push}
-use Rattle.scan_machine.specs.Rules.{HasWords}
+use Rattle.scan_machine.specs.Rules.{HasWords, takes, gives}
 use Rattle.scan_machine.specs.Machine.{State, at_start}
+use Rattle.scan_machine.specs.Inner.Waiting.{waiting}
+use Rattle.scan_machine.proofs.Stacking.{length-waiting, waiting-none}
 use Rattle.scan_machine.proofs.Moves.{Went, went}
 use Rattle.scan_machine.proofs.Stays.{instr_at, words_at_place, constants_at_place, depth_at_place, step_within, step_depth, step_nearer}
 use Rattle.scan_machine.proofs.Ran.{begun, ran_more, held, ended}
@@ -11,11 +13,10 @@ use Rattle.scan_machine.proofs.running.run_on.Goals as goal
 
 pub loop-index-init : goal.loop-index-init
 loop-index-init g c =
-    let none = c.new-stack.ensures in
     record {
-      ran = (0, begun c.args.code.now (to_z w64 (of_z w64 c.args.dt)) (record { words = c.args.words.now; stores = c.args.touched.now.pairs }) c.new-stack.result none, omega arith);
+      ran = (0, begun c.args.code.now (to_z w64 (of_z w64 c.args.dt)) (record { words = c.args.words.now; stores = c.args.touched.now.pairs }) (waiting c.new-places.result 0) (waiting-none c.new-places.result), omega arith);
       within = omega arith;
-      depth = ap length none;
+      depth = refl;
       size = refl;
     }
 
@@ -51,8 +52,8 @@ pub loop-index-smaller : goal.loop-index-smaller
 loop-index-smaller g c =
     let code = c.args.code.now in let total = length c.args.words.now in let l = c.loop-index in let n = c.step-index in
     let d : Instr = Push (pos 0) in let here = c.loop-index-test.true in
-    let s : State = record { index = l.index; stack = l.stack; words = l.words; flag = l.flag; stores = l.touched.pairs } in
-    let s' : State = record { index = n.result; stack = n.new.stack; words = n.new.words; flag = n.new.flag; stores = n.new.touched.pairs } in
+    let s : State = record { index = l.index; stack = waiting l.places l.depth; words = l.words; flag = l.flag; stores = l.touched.pairs } in
+    let s' : State = record { index = n.result; stack = waiting n.new.places n.new.depth; words = n.new.words; flag = n.new.flag; stores = n.new.touched.pairs } in
     let move : Went (get_or code l.index d) s s' =
     went (to_z w64 (of_z w64 c.args.dt)) (get_or code l.index d) s s'
     (subst (λ n. HasWords n (get_or code l.index d)) (sym l.auto.words) (words_at_place code total c.requires.verified l.index d here))
@@ -63,8 +64,8 @@ pub loop-index-preserved : goal.loop-index-preserved
 loop-index-preserved g c =
     let code = c.args.code.now in let total = length c.args.words.now in let l = c.loop-index in let n = c.step-index in
     let d : Instr = Push (pos 0) in let here = c.loop-index-test.true in
-    let s : State = record { index = l.index; stack = l.stack; words = l.words; flag = l.flag; stores = l.touched.pairs } in
-    let s' : State = record { index = n.result; stack = n.new.stack; words = n.new.words; flag = n.new.flag; stores = n.new.touched.pairs } in
+    let s : State = record { index = l.index; stack = waiting l.places l.depth; words = l.words; flag = l.flag; stores = l.touched.pairs } in
+    let s' : State = record { index = n.result; stack = waiting n.new.places n.new.depth; words = n.new.words; flag = n.new.flag; stores = n.new.touched.pairs } in
     let dt = to_z w64 (of_z w64 c.args.dt) in
     let move : Went (get_or code l.index d) s s' =
     went dt (get_or code l.index d) s s'
@@ -79,7 +80,10 @@ loop-index-preserved g c =
         omega (arith, ran.2, ticked),
       );
       within = step_within code total c.requires.verified d s s' here l.auto.words move;
-      depth = step_depth code total c.requires.verified d s s' here l.auto.words move l.invariant.depth n.ensures.depth;
+      depth = sym (length-waiting n.new.places n.new.depth) ∙ step_depth code total c.requires.verified d s s' here l.auto.words move
+          (length-waiting l.places l.depth ∙ l.invariant.depth)
+          (ap (λ k. k + takes (get_or code l.index d)) (length-waiting n.new.places n.new.depth)
+          ∙ (n.ensures.depth ∙ ap (λ k. k + gives (get_or code l.index d)) (sym (length-waiting l.places l.depth))));
       size = n.ensures.size ∙ l.invariant.size;
     }
 
@@ -90,7 +94,7 @@ returns-clause-ran g c =
       ran.0,
       ended c.args.code.now (length c.args.words.now) c.requires.verified c.args.dt (to_z w64 (of_z w64 c.args.dt))
           (record { words = c.args.words.now; stores = c.args.touched.now.pairs }) ran.0
-          (record { index = l.index; stack = l.stack; words = l.words; flag = l.flag; stores = l.touched.pairs })
-          same l.invariant.within c.loop-index-test.false l.invariant.depth ran.1,
+          (record { index = l.index; stack = waiting l.places l.depth; words = l.words; flag = l.flag; stores = l.touched.pairs })
+          same l.invariant.within c.loop-index-test.false (length-waiting l.places l.depth ∙ l.invariant.depth) ran.1,
       ran.2,
     )
