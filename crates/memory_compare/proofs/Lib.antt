@@ -1,0 +1,4 @@
+pub mod AllMemories
+pub mod Below
+pub mod Shown
+pub mod Steps

@@ -1,0 +1,4 @@
+pub mod Changes
+pub mod Inner
+pub mod Judging
+pub mod Windows
