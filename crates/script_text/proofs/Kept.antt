@@ -35,8 +35,8 @@ use Rattle.script_text.specs.MomentValue.{MomentValue}
 use Rattle.script_text.specs.ScriptValue.{ScriptValue}
 use Rattle.script_text.specs.Standing.{Standing, beginning, scan_limit, address_limit, with_last, with_line, with_rename, with_ask, inside, line_added, opening, count_within, all_within, new_moment, is_time, pointed, scans_to, at_scan, set_input, set_point, timed, poked, download, stated, shaped, is_prepared, may_stand, worded, outside, closed, blocked, placed, numbered, after}
 use Rattle.script_text.specs.Spells.{goes_on, come_to, contents_of, script_in}
-use Rattle.script_text.specs.IsScript.{IsShort, AllShort, IsShortTriple, Writable, IsPlant, IsBlock, IsLine, is_download, downloads, IsRequest, IsMoment, AreMoments, IsScript}
-use Rattle.script_text.proofs.LineFacts.{both, no_feed, AreContents, contents_are}
+use Rattle.script_text.specs.IsScript.{is_byte, IsShort, AllShort, IsShortTriple, Writable, IsPlant, IsBlock, IsLine, is_download, downloads, IsRequest, IsMoment, AreMoments, IsScript}
+use Rattle.script_text.proofs.LineFacts.{both, no_feed, AreContents, contents_are, all_bytes, contents_bytes}
 use Rattle.script_text.proofs.Orders.{has_scans, is_early, is_late, early, late}
 use Rattle.script_text.proofs.Reaches.{Given, given_map, given_then, given_when, given_at, short_number, read_name, good_numbers, good_triple, good_request, plant_more, block_more, moment_line, moment_rename, moment_ask, downloads_more, LastDoes, LastIs, moment_more, last_more, does_more, changed, does, last_changed, setting_is}
 
@@ -222,7 +222,7 @@ Good (Ok s) = IsGood s
 Good (Err cause) = Unit {0}
 
 empty_block : IsBlock []
-empty_block = ([], refl, tt)
+empty_block = ([], refl, tt, refl)
 
 within : (low high : ℕ) (z : ℤ) (k : ℕ) → count_within low high z ≡ Some k → (low ≤ k) × (k ≤ high)
 within low high (negsuc n) k h = absurd (cc)
@@ -449,31 +449,35 @@ good_closed s (SwapBlock leg) open' h =
 good_closed s DownloadBlock open' h =
     good_ended s (DownloadLine s.block) false true h (subst (λ (o : Option Opener). LastDoes (Has (shown o s.downloaded)) s.moments) open' h.has) (refl, h.block) refl (subst (λ (o : Option Opener). Marked o s.downloaded) open' h.marked)
 
-good_blocked : (s : Standing) (o : Opener) (content : List ℕ) → s.opened ≡ Some o → (list_all no_feed content ≡ true) × (content_of content ≡ content) → IsGood s → IsGood (blocked s o content)
+-- what a line's content is
+abbrev Content : List ℕ → Type 0
+Content content = (list_all no_feed content ≡ true) × (content_of content ≡ content) × (list_all is_byte content ≡ true)
+
+good_blocked : (s : Standing) (o : Opener) (content : List ℕ) → s.opened ≡ Some o → Content content → IsGood s → IsGood (blocked s o content)
 good_blocked s o content open' line h = by (bytes_eq content (codes "ENDTEXT")) refl
   where
     by : (b : Bool) → bytes_eq content (codes "ENDTEXT") ≡ b → IsGood (if b then closed s o else record s { block = s.block ++ ended content })
     by true e = good_closed s o open' h
-    by false e = record { plant = h.plant; text = h.text; block = block_more s.block content h.block (line.0, line.1, e, tt); stage = h.stage; moments = h.moments; last = h.last; has = h.has; marked = h.marked }
+    by false e = record { plant = h.plant; text = h.text; block = block_more s.block content h.block (line.0, line.1, e, tt) line.2; stage = h.stage; moments = h.moments; last = h.last; has = h.has; marked = h.marked }
 
-good_placed : (s : Standing) (o : Option Opener) (content : List ℕ) → s.opened ≡ o → (list_all no_feed content ≡ true) × (content_of content ≡ content) → IsGood s → Good (placed s o content)
+good_placed : (s : Standing) (o : Option Opener) (content : List ℕ) → s.opened ≡ o → Content content → IsGood s → Good (placed s o content)
 good_placed s (Some o) content e line h = good_blocked s o content e line h
 good_placed s None content e line h = good_outside s (words_of content) h e
 
-good_after : (r : Result Standing ScriptCause) (content : List ℕ) → (list_all no_feed content ≡ true) × (content_of content ≡ content) → Good r → Good (goes_on r content)
+good_after : (r : Result Standing ScriptCause) (content : List ℕ) → Content content → Good r → Good (goes_on r content)
 good_after (Err cause) content line h = tt
 good_after (Ok s) content line h = good_placed (numbered s) s.opened content refl line (record { plant = h.plant; text = h.text; block = h.block; stage = h.stage; moments = h.moments; last = h.last; has = h.has; marked = h.marked })
 
-good_lines : (lines : List (List ℕ)) (r : Result Standing ScriptCause) → AreContents lines → Good r → Good (fold goes_on r lines)
-good_lines [] r a h = h
-good_lines (l ∷ lines) r a h = good_lines lines (goes_on r l) a.2 (good_after r l (a.0, a.1) h)
+good_lines : (lines : List (List ℕ)) (r : Result Standing ScriptCause) → AreContents lines → all_bytes lines → Good r → Good (fold goes_on r lines)
+good_lines [] r a b h = h
+good_lines (l ∷ lines) r a b h = good_lines lines (goes_on r l) a.2 b.1 (good_after r l (a.0, a.1, b.0) h)
 
 good_beginning : IsGood beginning
 good_beginning = record { plant = tt; text = empty_block; block = empty_block; stage = refl; moments = tt; last = refl; has = tt; marked = tt }
 
 -- what a text spells is a script
-pub reached : (text : List ℕ) (s : Standing) → come_to (contents_of text) ≡ Ok s → s.part ≡ Ended → IsScript (script_in s).value
-reached text s good end =
-    let h : IsGood s = subst Good good (good_lines (contents_of text) (Ok beginning) (contents_are text) good_beginning) in
+pub reached : (text : List ℕ) (s : Standing) → list_all is_byte text ≡ true → come_to (contents_of text) ≡ Ok s → s.part ≡ Ended → IsScript (script_in s).value
+reached text s bytes good end =
+    let h : IsGood s = subst Good good (good_lines (contents_of text) (Ok beginning) (contents_are text) (contents_bytes text bytes) good_beginning) in
     let bounds : (1 ≤ s.scans) × (s.scans ≤ scan_limit) = subst (λ (p : Part). Staged (has_scans p) s.moments s.scans) end h.stage in
     record { plant = h.plant; text = h.text; least = bounds.0; most = bounds.1; moments = h.moments }

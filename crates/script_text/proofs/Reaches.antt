@@ -10,6 +10,7 @@ use Rattle.std.proofs.lemmas.Slice.Eq.{bytes_eq-Decides}
 use Rattle.std.proofs.lemmas.List.Quantifiers.{position-Some}
 use Rattle.std.proofs.lemmas.Option.{get_or_from_slice_get}
 use Rattle.std.proofs.lemmas.Bool.{lt-ltb}
+use Rattle.std.proofs.lemmas.List.Folds.{list_all-append}
 use Rattle.tri_base.proofs.Digits.{short_value}
 use Rattle.tri_base.proofs.NameBytes.{name_of-capitals}
 use Rattle.tri_base.specs.Numbers.{number_of, size_of, is_short_numeral}
@@ -22,7 +23,7 @@ use Rattle.script_lines.specs.Statements.{numbers_of, triple, hex_digit, hex_byt
 use Rattle.script_text.specs.declared.moment.ScanLine.{ScanLine}
 use Rattle.script_text.specs.MomentValue.{MomentValue}
 use Rattle.script_text.specs.Standing.{with_last, with_line, new_moment, all_within}
-use Rattle.script_text.specs.IsScript.{IsShort, AllShort, IsShortTriple, Writable, IsPlant, AreBlockLines, IsBlock, IsSetting, IsLine, is_download, downloads, AreLines, AreRenames, HaveDownload, IsRequest, AreRequests, IsMoment, AreMoments}
+use Rattle.script_text.specs.IsScript.{is_byte, IsShort, AllShort, IsShortTriple, Writable, IsPlant, AreBlockLines, IsBlock, IsSetting, IsLine, is_download, downloads, AreLines, AreRenames, HaveDownload, IsRequest, AreRequests, IsMoment, AreMoments}
 use Rattle.script_text.proofs.LineFacts.{both, no_feed}
 
 -- ---- what an option gives, where it gives anything
@@ -155,8 +156,13 @@ block_lines_more : (lines : List (List ℕ)) (line : List ℕ) → AreBlockLines
 block_lines_more [] line h k = k
 block_lines_more (l ∷ lines) line h k = (h.0, h.1, h.2, block_lines_more lines line h.3 k)
 
-pub block_more : (text line : List ℕ) → IsBlock text → AreBlockLines (line ∷ []) → IsBlock (text ++ ended line)
-block_more text line (lines, is, h) k = (lines ++ line ∷ [], ap (λ t. t ++ ended line) is ∙ ended_more lines line, block_lines_more lines line h k)
+pub block_more : (text line : List ℕ) → IsBlock text → AreBlockLines (line ∷ []) → list_all is_byte line ≡ true → IsBlock (text ++ ended line)
+block_more text line (lines, is, h, bytes) k small = (
+  lines ++ line ∷ [],
+  ap (λ t. t ++ ended line) is ∙ ended_more lines line,
+  block_lines_more lines line h k,
+  list_all-append is_byte text (ended line) ∙ (λ i. bytes i && (list_all-append is_byte line (10 ∷ []) ∙ (λ j. small j && true)) i),
+)
 
 lines_more : (points : List Point) (lines : List ScanLine) (d : Bool) (line : ScanLine) → AreLines points d lines → IsLine points (downloads d lines) line → AreLines points d (lines ++ line ∷ [])
 lines_more points [] d line h k = (k, tt)

@@ -1,9 +1,10 @@
 -- A leg can read each scan of a tape.
-use Rattle.std.proofs.Common.{◌≡◌, ℕ, ℤ, zero, suc, pos, negsuc, ◌+◌, ◌<◌, ◌≤◌, ◌≤ℤ◌, int_le, Bool, true, false, List, [], ◌∷◌, length, map, fold, take, get_or, set, ◌&&◌, ◌||◌, Option, Some, None, refl, sym, ap, ◌∙◌, subst, arith, slice_get}
+use Rattle.std.proofs.Common.{◌≡◌, ℕ, ℤ, zero, suc, pos, negsuc, ◌+◌, ◌<◌, ◌≤◌, ◌≤ℤ◌, int_le, Bool, true, false, List, [], ◌∷◌, ◌++◌, length, map, fold, take, get_or, set, ◌&&◌, ◌||◌, Option, Some, None, refl, sym, ap, ◌∙◌, subst, arith, slice_get}
 use Rattle.std.specs.Bool.{if◌then◌else◌}
 use Rattle.std.specs.List.{All, AllZip, range_with_len}
 use Rattle.std.proofs.lemmas.Bool.Decides.{nat_tests}
 use Rattle.std.proofs.lemmas.Int.{ints}
+use Rattle.std.proofs.lemmas.List.Elements.{All-push}
 use Rattle.std.proofs.lemmas.List.FromFn.{get_or-map-range_with_len, length-map-range_with_len}
 use Rattle.tri_base.specs.Legs.{leg_part}
 use Rattle.tri_base.specs.declared.leg.Leg.{Leg}
@@ -23,8 +24,8 @@ use Rattle.script_text.specs.MomentValue.{MomentValue}
 use Rattle.script_text.specs.Moments.{moment_at}
 use Rattle.script_text.specs.ScriptValue.{ScriptValue}
 use Rattle.script_text.specs.Standing.{all_within, is_time}
-use Rattle.script_text.specs.LegScans.{LegScan, IsReadable, reading_only, unread, input_place, same_leg, for_leg, with_shown, with_result, with_leg_line, next_scan, scan_of, tape_of}
-use Rattle.script_text.proofs.LineFacts.{both}
+use Rattle.script_text.specs.LegScans.{LegAct, Poke as PokeAct, Replace as ReplaceAct, Swap as SwapAct, LegScan, SwapsBytes, LoadsBytes, IsReadable, reading_only, unread, input_place, same_leg, for_leg, with_shown, with_result, with_leg_line, next_scan, scan_of, tape_of}
+use Rattle.script_text.proofs.LineFacts.{both, bytes_all}
 use Rattle.script_text.proofs.Tapes.{lines_there}
 
 -- ---- the readings before the first scan
@@ -93,33 +94,39 @@ for_either points l x h k true = k
 for_either points l x h k false = h
 
 -- what else is seen doesn't count
-alike : (points : List Point) (l x : LegScan) → IsReadable points l → l.time ≡ x.time → l.readings ≡ x.readings → IsReadable points x
-alike points l x h time readings = record {
+alike : (points : List Point) (l x : LegScan) → IsReadable points l → l.time ≡ x.time → l.readings ≡ x.readings → l.acts ≡ x.acts → l.download ≡ x.download → IsReadable points x
+alike points l x h time readings acts download = record {
   time = subst (λ t. (pos 1 ≤ℤ t) × (t ≤ℤ pos 10000)) time h.time;
   readings = subst (AllZip IsWithin (inputs_of points)) readings h.readings;
+  acts = subst (All SwapsBytes) acts h.acts;
+  download = subst LoadsBytes download h.download;
 }
 
+-- an act more
+acting : (points : List Point) (l : LegScan) (act : LegAct) → IsReadable points l → SwapsBytes act → IsReadable points (record l { acts = l.acts ++ act ∷ [] })
+acting points l act h is = record { time = h.time; readings = h.readings; acts = All-push SwapsBytes l.acts act h.acts is; download = h.download }
+
 line_read : (points : List Point) (renames : List (List ℕ × List ℕ)) (leg : Leg) (l : LegScan) (d : Bool) (line : ScanLine) → IsLine points d line → IsReadable points l → IsReadable points (with_leg_line points renames leg l line)
-line_read points renames leg l d (Set s) is h = record { time = h.time; readings = set_within points s.point is.point (leg_part s.reads leg) l.readings is.there is.input (leg_within is.point s.reads leg is.within) h.readings }
-line_read points renames leg l d (Time reads) is h = record { time = leg_time reads leg is; readings = h.readings }
-line_read points renames leg l d (Download text) is h = alike points l _ h refl refl
-line_read points renames leg l d (Mute other) is h = for_either points l _ h (alike points l _ h refl refl) (same_leg other leg)
-line_read points renames leg l d (Poke other address value) is h = for_either points l _ h (alike points l _ h refl refl) (same_leg other leg)
-line_read points renames leg l d (Replace other) is h = for_either points l _ h (alike points l _ h refl refl) (same_leg other leg)
-line_read points renames leg l d (Swap other text) is h = for_either points l _ h (alike points l _ h refl refl) (same_leg other leg)
+line_read points renames leg l d (Set s) is h = record { time = h.time; readings = set_within points s.point is.point (leg_part s.reads leg) l.readings is.there is.input (leg_within is.point s.reads leg is.within) h.readings; acts = h.acts; download = h.download }
+line_read points renames leg l d (Time reads) is h = record { time = leg_time reads leg is; readings = h.readings; acts = h.acts; download = h.download }
+line_read points renames leg l d (Download text) is h = record { time = h.time; readings = h.readings; acts = h.acts; download = bytes_all text is.1.3 }
+line_read points renames leg l d (Mute other) is h = for_either points l _ h (alike points l _ h refl refl refl refl) (same_leg other leg)
+line_read points renames leg l d (Poke other address value) is h = for_either points l _ h (acting points l (PokeAct address value) h tt) (same_leg other leg)
+line_read points renames leg l d (Replace other) is h = for_either points l _ h (acting points l ReplaceAct h tt) (same_leg other leg)
+line_read points renames leg l d (Swap other text) is h = for_either points l _ h (acting points l (SwapAct text) h (bytes_all text is.3)) (same_leg other leg)
 line_read points renames leg l d (Read other side words) is h = for_either points l _ h (shown side) (same_leg other leg)
   where
     shown : (side : Option Side) → IsReadable points (with_shown l side words)
-    shown None = alike points l _ h refl refl
-    shown (Some Left) = alike points l _ h refl refl
-    shown (Some Right) = alike points l _ h refl refl
+    shown None = alike points l _ h refl refl refl refl
+    shown (Some Left) = alike points l _ h refl refl refl refl
+    shown (Some Right) = alike points l _ h refl refl refl refl
 line_read points renames leg l d (Result other side words) is h = for_either points l _ h (put side) (same_leg other leg)
   where
     put : (side : Option Side) → IsReadable points (with_result l side words)
-    put None = alike points l _ h refl refl
-    put (Some Left) = alike points l _ h refl refl
-    put (Some Right) = alike points l _ h refl refl
-line_read points renames leg l d (Drive other words) is h = for_either points l _ h (alike points l _ h refl refl) (same_leg other leg)
+    put None = alike points l _ h refl refl refl refl
+    put (Some Left) = alike points l _ h refl refl refl refl
+    put (Some Right) = alike points l _ h refl refl refl refl
+line_read points renames leg l d (Drive other words) is h = for_either points l _ h (alike points l _ h refl refl refl refl) (same_leg other leg)
 
 lines_read : (points : List Point) (renames : List (List ℕ × List ℕ)) (leg : Leg) (l : LegScan) (d : Bool) (lines : List ScanLine) → AreLines points d lines → IsReadable points l → IsReadable points (fold (with_leg_line points renames leg) l lines)
 lines_read points renames leg l d [] is h = h
@@ -129,11 +136,11 @@ lines_read points renames leg l d (line ∷ lines) is h = lines_read points rena
 
 scan_read : (v : ScriptValue) (leg : Leg) (k : ℕ) → IsScript v → All Fits v.points → IsReadable v.points (scan_of v leg k)
 unfolding scan_of
-scan_read v leg zero h fit = record { time = (grind (arith, ints, nat_tests), grind (arith, ints, nat_tests)); readings = zeros v.points fit }
+scan_read v leg zero h fit = record { time = (grind (arith, ints, nat_tests), grind (arith, ints, nat_tests)); readings = zeros v.points fit; acts = (λ i d lt. absurd (omega arith)); download = tt }
 scan_read v leg (suc k) h fit =
     let before = scan_read v leg k h fit in
     let m = moment_at (suc k) v.moments in
-    lines_read v.points m.renames leg (reading_only (scan_of v leg k).time (scan_of v leg k).readings) false m.lines (lines_there v.points 0 v.scans (suc k) v.moments h.moments) (record { time = before.time; readings = before.readings })
+    lines_read v.points m.renames leg (reading_only (scan_of v leg k).time (scan_of v leg k).readings) false m.lines (lines_there v.points 0 v.scans (suc k) v.moments h.moments) (record { time = before.time; readings = before.readings; acts = (λ i d lt. absurd (omega arith)); download = tt })
 
 pub all_read : (v : ScriptValue) (leg : Leg) → IsScript v → All Fits v.points → All (IsReadable v.points) (tape_of v leg).scans
 all_read v leg h fit = λ i d lt.

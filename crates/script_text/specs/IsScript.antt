@@ -52,9 +52,14 @@ AreBlockLines (line ∷ lines) =
     (list_all (λ b. not (b == line_feed)) line ≡ true) × (content_of line ≡ line)
     × (bytes_eq line (codes "ENDTEXT") ≡ false) × AreBlockLines lines
 
--- A text can stand in a block: it is lines, each with its line feed.
+-- A byte is below 256.
+abbrev pub is_byte : ℕ → Bool
+is_byte b = nat_lt b 256
+
+-- A text can stand in a block: it is lines, each with its line feed, and all of it is bytes.
 abbrev pub IsBlock : List ℕ → Type 0
-IsBlock text = (lines : List (List ℕ)) × (text ≡ flat_map ended lines) × AreBlockLines lines
+IsBlock text =
+    (lines : List (List ℕ)) × (text ≡ flat_map ended lines) × AreBlockLines lines × (list_all is_byte text ≡ true)
 
 -- A setting is for an input, found by its name, and its readings lie in the input's range.
 pub record IsSetting (points : List Point) (setting : Setting) : Type 0 where
@@ -109,7 +114,7 @@ HaveDownload (r ∷ renames) downloaded = downloaded ≡ true
 pub record IsRequest (bytes : List ℕ) : Type 0 where
   pub some : 1 ≤ length bytes
   pub few : length bytes ≤ 260
-  pub small : list_all (λ b. nat_lt b 256) bytes ≡ true
+  pub small : list_all is_byte bytes ≡ true
 
 -- So have all of some requests.
 abbrev pub AreRequests : List (List ℕ) → Type 0

@@ -1,6 +1,6 @@
 -- What one leg sees of a script, scan by scan (own rules).
-use Rattle.std.specs.Prelude.{ℕ, ℤ, pos, ◌≤ℤ◌, zero, suc, ◌+◌, ◌-◌, ◌==◌, Bool, true, false, List, [], ◌∷◌, ◌++◌, length, map, fold, take, slice_set, slice_index_or, Option, Some, None, if◌then◌else◌}
-use Rattle.std.specs.List.{AllZip, range_with_len}
+use Rattle.std.specs.Prelude.{ℕ, ℤ, pos, ◌<◌, ◌≤ℤ◌, zero, suc, ◌+◌, ◌-◌, ◌==◌, Bool, true, false, List, [], ◌∷◌, ◌++◌, length, map, fold, take, slice_set, slice_index_or, Option, Some, None, if◌then◌else◌}
+use Rattle.std.specs.List.{All, AllZip, range_with_len}
 use Rattle.tri_base.specs.Downloads.{Download}
 use Rattle.tri_base.specs.Legs.{leg_part}
 use Rattle.tri_base.specs.declared.leg.Leg.{Leg}
@@ -143,10 +143,24 @@ unfoldable pub scan_of : ScriptValue → Leg → ℕ → LegScan
 scan_of v leg zero = unread v.points
 scan_of v leg (suc k) = next_scan v.points leg (scan_of v leg k) (moment_at (suc k) v.moments)
 
--- A leg can read a scan: its time lies within the limits, and each input has a reading within its range.
+-- The text that a leg swaps to is bytes.
+abbrev pub SwapsBytes : LegAct → Type 0
+SwapsBytes (Poke address value) = Unit {0}
+SwapsBytes Replace = Unit {0}
+SwapsBytes (Swap text) = All (λ b. b < 256) text
+
+-- The text of a download is bytes.
+abbrev pub LoadsBytes : Option Download → Type 0
+LoadsBytes None = Unit {0}
+LoadsBytes (Some d) = All (λ b. b < 256) d.text
+
+-- A leg can read a scan: its time lies within the limits, each input has a reading within its range, and its texts are
+-- bytes.
 pub record IsReadable (points : List Point) (l : LegScan) : Type 0 where
   pub time : (pos 1 ≤ℤ l.time) × (l.time ≤ℤ pos time_limit)
   pub readings : AllZip IsWithin (inputs_of points) l.readings
+  pub acts : All SwapsBytes l.acts
+  pub download : LoadsBytes l.download
 
 -- A tape is what a leg sees of each scan, from 1 on.
 pub record TapeValue : Type 0 where

@@ -15,8 +15,16 @@ pub fn read_script(alloc: Global, text: &Text) -> Result<Script, ScriptFault>
     requires { length (lines_of text.now.list) + 1 < 2 ^ 32 }
     ensures { IsReading text.now.list result }
 {
+    read_bytes(alloc, text.bytes())
+}
+
+/// The same of bytes.
+fn read_bytes(alloc: Global, bytes: &[u8]) -> Result<Script, ScriptFault>
+    requires { length (lines_of bytes.now) + 1 < 2 ^ 32 }
+    ensures { IsReading bytes.now result }
+{
     let mut reader = Reader::new(alloc);
-    let mut rest = text.bytes();
+    let mut rest = bytes;
     while !rest.is_empty() {
         let (line, behind) = cut_line(rest);
         if let Err(fault) = reader.take(content(line)) {

@@ -12,7 +12,7 @@ use Rattle.script_writer.proofs.Round.{block_lines_again}
 
 -- a block's lines and its end are its text and its end
 pub block_text : (text : List ℕ) → IsBlock text → flat_map ended (lines_of text ++ codes "ENDTEXT" ∷ []) ≡ text ++ codes "ENDTEXT\n"
-block_text text (lines, is, h) =
+block_text text (lines, is, h, bytes) =
     flat_map-append ended (lines_of text) (codes "ENDTEXT" ∷ [])
     ∙ ap (λ t. t ++ codes "ENDTEXT\n") (ap (flat_map ended) (ap lines_of is ∙ block_lines_again lines h) ∙ sym is)
 

@@ -95,7 +95,7 @@ block_lines_again (line ∷ lines) h = ap lines_of (append_assoc line (10 ∷ []
 
 -- from a block's first line on to its end
 block_whole : (text : List ℕ) (s : Standing) (opener : Opener) (n : ℕ) → IsBlock text → (m : ℕ) × (fold goes_on (Ok (in_block s opener n [])) (lines_of text ++ codes "ENDTEXT" ∷ []) ≡ Ok (closed (in_block s opener m text) opener))
-block_whole text s opener n (lines, is, h) =
+block_whole text s opener n (lines, is, h, bytes) =
     let (m, goes) = block_all lines s opener n [] h in
     let same : lines_of text ≡ lines = ap lines_of is ∙ block_lines_again lines h in
     let whole : fold goes_on (Ok (in_block s opener n [])) (lines_of text) ≡ Ok (in_block s opener m text) = ap (λ ls. fold goes_on (Ok (in_block s opener n [])) ls) same ∙ (goes ∙ ap (λ t. Ok (in_block s opener m t)) (sym is)) in
@@ -391,7 +391,7 @@ text_contents [] h = tt
 text_contents (line ∷ lines) h = (h.0, h.1, text_contents lines h.3)
 
 block_contents : (first text : List ℕ) → AreContents (first ∷ []) → IsBlock text → AreContents (block_lines first text)
-block_contents first text one (lines, is, h) =
+block_contents first text one (lines, is, h, bytes) =
     let same : lines_of text ≡ lines = ap lines_of is ∙ block_lines_again lines h in
     (one.0, one.1, both_contents (lines_of text) (codes "ENDTEXT" ∷ []) (subst AreContents (sym same) (text_contents lines h)) (refl, refl, tt))
 

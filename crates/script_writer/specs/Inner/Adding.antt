@@ -1,5 +1,5 @@
--- What code that writes a piece of a text ensures, unless memory fails. It serves private functions alone: nobody has to
--- believe it.
+-- What code that writes a piece of a text ensures, unless memory fails. It serves private functions alone: nobody has
+-- to believe it.
 use Rattle.std.specs.Prelude.{◌≡◌, ℕ, List, [], ◌∷◌, ◌++◌, map, flat_map, decimal, codes, Result, OnOk}
 use Rattle.tri_base.specs.Rows.{TextValue}
 use Rattle.tri_base.specs.declared.point.Point.{Point}

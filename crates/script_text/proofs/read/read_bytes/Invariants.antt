@@ -1,12 +1,12 @@
 use Rattle.std.proofs.Common.{◌≡◌, ◌+◌, ◌<◌, ◌^◌, length}
 use Rattle.script_lines.specs.Lines.{lines_of}
 use Rattle.script_text.proofs.Firsts.{HasRead}
-use Rattle.script_text.proofs.read.read_script.Given as goal
+use Rattle.script_text.proofs.read.read_bytes.Given as goal
 
 -- how what was read stands, and no line goes uncounted
 abbrev pub invariant-loop-rest : goal.invariant-loop-rest
 invariant-loop-rest l = record {
-  read : HasRead l.text.list l.rest l.reader;
+  read : HasRead l.bytes l.rest l.reader;
   counted : l.reader.line + length (lines_of l.rest) + 1 < 2 ^ 32;
 }
 
