@@ -3,7 +3,7 @@ use Rattle.std.proofs.Common.{◌≡◌, ℕ, List, [], ◌∷◌, ◌++◌, map
 use Rattle.std.proofs.lemmas.Grind.{flat_map-append}
 use Rattle.tri_base.specs.declared.point.Point.{Point}
 use Rattle.script_lines.specs.Lines.{lines_of, ended}
-use Rattle.script_text.specs.IsScript.{IsBlock, IsMoment, AreMoments}
+use Rattle.script_text.specs.IsScript.{IsBlock, AreMoments}
 use Rattle.script_text.specs.MomentValue.{MomentValue}
 use Rattle.script_text.specs.ScriptValue.{ScriptValue}
 use Rattle.script_writer.specs.Canonical.{spaced, point_words, block_lines, schedule_lines, moment_lines, canonical_text}

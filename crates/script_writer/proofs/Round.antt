@@ -1,30 +1,26 @@
 -- The canonical text of a script is read as that script.
-use Rattle.std.proofs.Common.{◌≡◌, ℕ, ℤ, suc, pos, ◌+◌, ◌-◌, ◌<◌, ◌≤◌, ◌^◌, Bool, true, false, not, List, [], ◌∷◌, ◌++◌, length, map, flat_map, fold, nat_le, ◌==◌, ◌&&◌, ◌||◌, Option, Some, None, option_map, Result, Ok, Err, refl, sym, ap, ◌∙◌, subst, arith, append_assoc, append-nil, decimal, codes, slice_get}
+use Rattle.std.proofs.Common.{◌≡◌, ℕ, ℤ, pos, ◌+◌, ◌≤◌, Bool, true, false, List, [], ◌∷◌, ◌++◌, length, map, flat_map, fold, nat_le, ◌&&◌, ◌||◌, Some, None, option_map, Result, Ok, Err, refl, sym, ap, ◌∙◌, subst, arith, append_assoc, append-nil, decimal, codes, slice_get}
 use Rattle.std.specs.Bool.{if◌then◌else◌}
-use Rattle.std.specs.List.{list_all}
-use Rattle.std.specs.Str.{bytes_eq}
 use Rattle.std.specs.Option.{option_and_then}
 use Rattle.std.specs.Fmt.{signed_decimal}
 use Rattle.std.proofs.lemmas.Bool.{le-leb}
 use Rattle.std.proofs.lemmas.List.Sums.{fold-append}
 use Rattle.tri_base.specs.Names.{name_of}
 use Rattle.tri_base.specs.declared.leg.Leg.{Leg}
-use Rattle.tri_base.specs.declared.leg.Side.{Side}
 use Rattle.tri_base.specs.declared.leg.Triple.{Triple}
 use Rattle.tri_base.specs.declared.point.Point.{Point}
-use Rattle.chassis.specs.Points.{refusal_of, place_of, is_input_kind}
+use Rattle.chassis.specs.Points.{refusal_of, place_of}
 use Rattle.script_lines.specs.declared.keyword.Keyword.{Keyword}
 use Rattle.script_lines.specs.declared.keyword.Keyword.TheVariants.{Point as PointWord, Text as TextWord, Schedule as ScheduleWord, Scans as ScansWord, At as AtWord, Set as SetWord, Time as TimeWord, Download as DownloadWord, Mute as MuteWord, Poke as PokeWord, Replace as ReplaceWord, Swap as SwapWord, Read as ReadWord, Result as ResultWord, Drive as DriveWord, Rename as RenameWord, Ask as AskWord, End as EndWord}
 use Rattle.script_lines.specs.declared.keyword.Part.{Part}
 use Rattle.script_lines.specs.declared.keyword.Part.TheVariants.{Heading as HeadingPart, Plant, Program as ProgramPart, Order as OrderPart, Count, Moment as MomentPart, Inside, Ended}
 use Rattle.script_lines.specs.declared.statement.Statement.{Statement}
-use Rattle.script_lines.specs.declared.statement.Statement.TheVariants.{Heading, Point as PointLine, Text, Schedule, Scans, At, Set, Time, Download, Mute, Poke, Replace, Swap, Read, Result as ResultLine, Drive, Rename, Ask, End}
-use Rattle.script_lines.specs.Lines.{lines_of, content_of, ended}
+use Rattle.script_lines.specs.declared.statement.Statement.TheVariants.{Point as PointLine, Text, Schedule, Scans, At, Set, Time, Download, Mute, Poke, Replace, Swap, Read, Result as ResultLine, Drive, Rename, Ask, End}
+use Rattle.script_lines.specs.Lines.{lines_of, ended}
 use Rattle.script_lines.specs.Order.{keyword_of, part_of, may_follow}
-use Rattle.script_lines.specs.Statements.{statement_of, begins_comment, triple, leg_of, sided_of, numbers_of, hex_bytes, legs_of, ask_digits}
-use Rattle.script_lines.specs.Words.{words_of}
+use Rattle.script_lines.specs.Statements.{statement_of, begins_comment, hex_bytes, ask_digits}
 use Rattle.script_text.specs.declared.fault.ScriptCause.{ScriptCause}
-use Rattle.script_text.specs.declared.fault.ScriptCause.TheVariants.{Word, Range, Second, Point as PointCause}
+use Rattle.script_text.specs.declared.fault.ScriptCause.TheVariants.{Word, Range, Point as PointCause}
 use Rattle.script_text.specs.declared.moment.Opener.{Opener}
 use Rattle.script_text.specs.declared.moment.Opener.TheVariants.{Program, Download as DownloadBlock, Swap as SwapBlock}
 use Rattle.script_text.specs.declared.moment.ScanLine.{ScanLine}
@@ -32,12 +28,12 @@ use Rattle.script_text.specs.declared.moment.ScanLine.TheVariants.{Set as SetLin
 use Rattle.script_text.specs.declared.moment.Setting.{Setting}
 use Rattle.script_text.specs.MomentValue.{MomentValue}
 use Rattle.script_text.specs.ScriptValue.{ScriptValue}
-use Rattle.script_text.specs.Standing.{Standing, beginning, scan_limit, address_limit, with_last, with_line, with_rename, with_ask, inside, line_added, opening, count_within, all_within, new_moment, is_time, pointed, scans_to, at_scan, set_input, set_point, timed, poked, download, stated, shaped, is_prepared, worded, outside, placed, numbered, after, closed}
+use Rattle.script_text.specs.Standing.{Standing, beginning, scan_limit, address_limit, with_last, with_line, with_rename, with_ask, line_added, count_within, new_moment, is_time, pointed, scans_to, at_scan, set_input, set_point, poked, stated, shaped, is_prepared, worded, outside, placed, numbered, after, closed}
 use Rattle.script_text.specs.Spells.{contents_of, goes_on, come_to, script_in, Spells}
-use Rattle.script_text.specs.IsScript.{IsShort, AllShort, IsShortTriple, Writable, IsPlant, AreBlockLines, IsBlock, IsSetting, IsLine, is_download, downloads, AreLines, AreRenames, HaveDownload, IsRequest, AreRequests, AreMoments, IsScript}
+use Rattle.script_text.specs.IsScript.{IsShort, IsShortTriple, Writable, IsPlant, AreBlockLines, IsBlock, IsSetting, IsLine, is_download, downloads, AreLines, AreRenames, HaveDownload, IsRequest, AreRequests, AreMoments, IsScript}
 use Rattle.script_text.proofs.LineFacts.{AreContents}
-use Rattle.script_writer.specs.Canonical.{spaced, point_words, point_tail, triple_words, leg_word, side_words, sided_words, name_at, block_lines, hex_of, rename_line, ask_line, line_lines, moment_lines, schedule_lines, canonical_lines, canonical_text, read_back}
-use Rattle.script_writer.proofs.RoundLines.{contents_again, both_contents, line_again, words_again, spaced_content, IsPlain, ArePlain}
+use Rattle.script_writer.specs.Canonical.{spaced, point_words, point_tail, triple_words, leg_word, sided_words, name_at, block_lines, hex_of, rename_line, ask_line, line_lines, moment_lines, schedule_lines, canonical_lines, canonical_text, read_back}
+use Rattle.script_writer.proofs.RoundLines.{contents_again, both_contents, line_again, words_again, spaced_content, ArePlain}
 use Rattle.script_writer.proofs.RoundWords.{number_again, number_plain, numbers_again, numbers_plain, name_plain, triple_again, triple_plain, leg_again, leg_plain, sided_again, sided_plain, time_short, legs_again, legs_plain, bytes_again, bytes_count, bytes_plain, point_again, point_plain}
 
 -- ---- lines in two pieces

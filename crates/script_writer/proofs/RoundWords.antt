@@ -1,5 +1,5 @@
 -- Numbers, names and the words of each kind of line are read again.
-use Rattle.std.proofs.Common.{◌≡◌, ℕ, ℤ, suc, pos, negsuc, neg_ℤ, ◌+◌, ◌-◌, ◌<◌, ◌≤◌, ◌^◌, ◌*◌, ◌/◌, ◌%◌, flat_map, Bool, true, false, not, List, [], ◌∷◌, ◌++◌, length, map, nat_lt, nat_le, ◌==◌, ◌&&◌, ◌||◌, Option, Some, None, option_map, refl, sym, ap, ◌∙◌, subst, arith, length-append, decimal, codes, get_or, int_le}
+use Rattle.std.proofs.Common.{◌≡◌, ℕ, ℤ, suc, pos, negsuc, neg_ℤ, ◌+◌, ◌<◌, ◌^◌, ◌*◌, ◌/◌, ◌%◌, flat_map, Bool, true, false, not, List, [], ◌∷◌, ◌++◌, length, map, nat_lt, nat_le, ◌==◌, ◌&&◌, Option, Some, None, option_map, refl, sym, ap, ◌∙◌, arith, length-append, decimal, codes, get_or}
 use Rattle.std.specs.Bool.{if◌then◌else◌}
 use Rattle.std.specs.List.{list_all, range_with_len}
 use Rattle.std.proofs.lemmas.Bool.{leb-true, ltb-true}
@@ -24,7 +24,7 @@ use Rattle.tri_base.specs.declared.leg.Side.{Side}
 use Rattle.tri_base.specs.declared.leg.Side.TheVariants.{Left, Right}
 use Rattle.tri_base.specs.declared.leg.Triple.{Triple}
 use Rattle.script_lines.specs.Statements.{triple, numbers_of, leg_of, side_of, sided_of, sided_leg, sided, legs_of, hex_digit, hex_byte, hex_bytes, point, discrete_point, input_point, output_point}
-use Rattle.script_text.specs.Standing.{is_time, time_limit}
+use Rattle.script_text.specs.Standing.{is_time}
 use Rattle.script_text.specs.IsScript.{IsShort, AllShort, IsShortTriple, Writable, IsRequest}
 use Rattle.script_text.proofs.LineFacts.{both}
 use Rattle.script_writer.specs.Canonical.{triple_words, leg_word, side_words, sided_words, digit_of, hex_of, point_tail, point_words}

@@ -1,6 +1,6 @@
 -- How a script is written: its lines in the order of scripts, each with a line feed, one space between words, shortest
 -- numbers, one SCHEDULE line or none, and the short SET or TIME where all legs read the same (own rules).
-use Rattle.std.specs.Prelude.{ℕ, ℤ, ◌/◌, ◌%◌, ◌&&◌, Bool, ◌+◌, List, [], ◌∷◌, ◌++◌, length, map, flat_map, slice_index_or, Option, Some, None, decimal, slice_get, codes, if◌then◌else◌}
+use Rattle.std.specs.Prelude.{ℕ, ℤ, ◌/◌, ◌%◌, ◌&&◌, ◌+◌, List, [], ◌∷◌, ◌++◌, length, map, flat_map, slice_index_or, Option, Some, None, decimal, slice_get, codes, if◌then◌else◌}
 use Rattle.std.specs.Fmt.{signed_decimal}
 use Rattle.std.specs.Ordering.{int_eq}
 use Rattle.tri_base.specs.Bytes.{space}

@@ -1,4 +1,4 @@
-use Rattle.std.proofs.Common.{List, ℕ, sym, subst}
+use Rattle.std.proofs.Common.{sym, subst}
 use Rattle.script_text.specs.IsScript.{IsBlock}
 use Rattle.script_writer.proofs.script.push_head.Goals as goal
 

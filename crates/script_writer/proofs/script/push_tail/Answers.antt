@@ -1,4 +1,4 @@
-use Rattle.std.proofs.Common.{◌≡◌, ◌∙◌, List, sym, subst}
+use Rattle.std.proofs.Common.{◌∙◌, List, sym, subst}
 use Rattle.tri_base.specs.declared.point.Point.{Point}
 use Rattle.script_writer.specs.Inner.Adding.{MomentsAre}
 use Rattle.script_writer.proofs.Pieces.{moments_are}
