@@ -1,5 +1,5 @@
-//! Reads the text of a program on standard input, and tells what the reader makes of it: how many tokens a
-//! program has, or why there is none.
+//! Reads the text of a program on standard input, and tells what the reader makes of it: how many
+//! tokens a program has, or why there is none.
 #![tactic(auto)]
 
 use st_reader::{ReadFault, lex, read_program};
@@ -7,7 +7,7 @@ use std::io;
 use tri_base::Text;
 use tri_io::{StdSource, read_all};
 
-// How many bytes a text may have.
+/// How many bytes a text may have.
 const LIMIT: usize = 1_048_576;
 
 fn main(rt: HostRuntime) -> io::Result<()> {

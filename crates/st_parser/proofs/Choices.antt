@@ -8,7 +8,7 @@ use Rattle.st_tree.specs.declared.token.TokenKind.TheVariants as kind
 use Rattle.st_tree.specs.declared.token.Token.{Token}
 use Rattle.st_tree.specs.Pieces.{Piece, IsPiece, ArePieces, word}
 use Rattle.st_tree.specs.Pieces as pieces
-use Rattle.st_parser.specs.Parsers.{Parser, and_then, first, Look, ahead, one, one_of, made, either, maybe, expect, after, the_word, is_kind, sees}
+use Rattle.st_parser.specs.Inner.Parsers.{Parser, and_then, first, Look, ahead, one, one_of, made, either, maybe, expect, after, the_word, is_kind, sees}
 use Rattle.st_parser.proofs.Lawful.{Is, Took, Failed, Sample, Lawful, Fits, fits, first_same, ahead_same, and_then_ok, and_then_err, same_answer}
 
 -- ---- other words for the same

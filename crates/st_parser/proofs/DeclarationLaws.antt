@@ -22,9 +22,9 @@ use Rattle.st_tree.specs.Pieces.{Piece, ArePieces, ◌·◌, word, word_at, numb
 use Rattle.st_tree.specs.Pieces as pieces
 use Rattle.st_tree.specs.Expressions.{truth_word}
 use Rattle.st_tree.specs.Declarations.{sign_word, spell_integer, spell_constant, simple_word, block_word, spell_type, spell_names, spell_declaration, spell_external, spell_block}
-use Rattle.st_parser.specs.Parsers.{Parser, Look, after, name, number, sees, sees_name, sees_number, sees_some}
-use Rattle.st_parser.specs.Tables.{truth_of, sign_of, simple_of, block_of}
-use Rattle.st_parser.specs.ReadDeclarations as read
+use Rattle.st_parser.specs.Inner.Parsers.{Parser, Look, after, name, number, sees, sees_name, sees_number, sees_some}
+use Rattle.st_parser.specs.Inner.Tables.{truth_of, sign_of, simple_of, block_of}
+use Rattle.st_parser.specs.Inner.ReadDeclarations as read
 use Rattle.st_parser.proofs.Lawful.{Is, Lawful}
 use Rattle.st_parser.proofs.Parts.{both}
 use Rattle.st_parser.proofs.Choices.{Always, Made, Either, Or, Not, recast, fewer, expect_word, after_word, made_part, rebuilt, either_part, maybe_part}

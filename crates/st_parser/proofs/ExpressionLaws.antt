@@ -32,10 +32,10 @@ use Rattle.st_tree.specs.declared.expression.Primary.TheOpen.{Primary-F, Unary-F
 use Rattle.st_tree.specs.Pieces.{Piece, ArePieces, ◌·◌, word, word_at, number_at, each}
 use Rattle.st_tree.specs.Pieces as pieces
 use Rattle.st_tree.specs.Expressions.{equal_word, compare_word, add_word, multiply_word, function_word, truth_word, spell_expr}
-use Rattle.st_parser.specs.Parsers.{Parser, Look, ahead, ◌⨟◌, expect, place_of, name, entry, entry_at, sees, sees_name, sees_number, sees_some}
-use Rattle.st_parser.specs.Tables.{equal_of, compare_of, add_of, multiply_of, function_of, truth_of}
-use Rattle.st_parser.specs.ReadExpressions as read
-use Rattle.st_parser.specs.ReadExpressions.{Suffix, named, primary_of, unary_of, product_of, sum_of, comparison_of, equality_of, conjunction_of, exclusive_of, whole_of, expr_at}
+use Rattle.st_parser.specs.Inner.Parsers.{Parser, Look, ahead, ◌⨟◌, expect, place_of, name, entry, entry_at, sees, sees_name, sees_number, sees_some}
+use Rattle.st_parser.specs.Inner.Tables.{equal_of, compare_of, add_of, multiply_of, function_of, truth_of}
+use Rattle.st_parser.specs.Inner.ReadExpressions as read
+use Rattle.st_parser.specs.Inner.ReadExpressions.{Suffix, named, primary_of, unary_of, product_of, sum_of, comparison_of, equality_of, conjunction_of, exclusive_of, whole_of, expr_at}
 use Rattle.st_parser.proofs.Lawful.{Is, Lawful, Sample, split}
 use Rattle.st_parser.proofs.Parts.{pair, both, both_solid}
 use Rattle.st_parser.proofs.Choices.{Always, Made, Either, Or, Not, recast, adjust, fewer, expect_word, after_word, made_part, rebuilt, either_part, nothing_part}

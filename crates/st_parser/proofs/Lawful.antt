@@ -2,7 +2,7 @@
 use Rattle.std.proofs.Common.{◌≡◌, ℕ, ◌<◌, Bool, true, false, not, ◌||◌, ◌⊎◌, inl, inr, List, [], ◌∷◌, ◌++◌, length, Option, Some, None, Ok, Err, refl, ap, sym, ◌∙◌}
 use Rattle.st_tree.specs.declared.token.Token.{Token}
 use Rattle.st_tree.specs.Pieces.{Piece, ArePieces}
-use Rattle.st_parser.specs.Parsers.{Outcome, Parser, and_then, first, Look, ahead}
+use Rattle.st_parser.specs.Inner.Parsers.{Outcome, Parser, and_then, first, Look, ahead}
 
 -- these tokens are those pieces
 abbrev pub Is : {A : Type 0} → (A → List Piece) → A → List Token → Type 0

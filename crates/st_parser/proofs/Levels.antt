@@ -1,8 +1,8 @@
 -- What a reader to so many levels is, where there is a level.
 use Rattle.std.proofs.Common.{◌≡◌, ℕ, zero, suc, ◌-◌, ◌<◌, List, ap, arith}
 use Rattle.st_tree.specs.declared.token.Token.{Token}
-use Rattle.st_parser.specs.ReadExpressions.{whole_of, expr_at}
-use Rattle.st_parser.specs.ReadStatements.{several, statements_at}
+use Rattle.st_parser.specs.Inner.ReadExpressions.{whole_of, expr_at}
+use Rattle.st_parser.specs.Inner.ReadStatements.{several, statements_at}
 
 pub expr_level : (n : ℕ) → 0 < n → (ts : List Token) → expr_at n ts ≡ whole_of n (expr_at (n - 1)) ts
 unfolding expr_at

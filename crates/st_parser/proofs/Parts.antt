@@ -2,7 +2,7 @@
 use Rattle.std.proofs.Common.{◌≡◌, ℕ, suc, ◌+◌, ◌<◌, Bool, true, ◌⊎◌, inl, inr, List, ◌++◌, length, Ok, Err, refl, ap, sym, ◌∙◌, subst, append_assoc, length-append, arith}
 use Rattle.st_tree.specs.declared.token.Token.{Token}
 use Rattle.st_tree.specs.Pieces.{Piece, ArePieces}
-use Rattle.st_parser.specs.Parsers.{Outcome, Parser, and_then, first, Look, ahead, one, ◌⨟◌}
+use Rattle.st_parser.specs.Inner.Parsers.{Outcome, Parser, and_then, first, Look, ahead, one, ◌⨟◌}
 use Rattle.st_parser.proofs.Lawful.{Is, Took, Failed, Lawful, Fits, fits, first_same, split, join, and_then_ok, and_then_err, same_answer}
 
 -- ---- one and then the other

@@ -12,9 +12,9 @@ use Rattle.st_tree.specs.Pieces as pieces
 use Rattle.st_tree.specs.Declarations.{spell_block}
 use Rattle.st_tree.specs.Statements.{spell_statement}
 use Rattle.st_tree.specs.Programs.{spell_program, Spells, Begins, IsFirstImpossible}
-use Rattle.st_parser.specs.Parsers.{Outcome, and_then, Look, ahead, first, ◌⨟◌, name, sees, sees_name}
-use Rattle.st_parser.specs.ReadStatements.{sees_statement}
-use Rattle.st_parser.specs.ReadPrograms.{sees_block, blocks, program, finish, whole}
+use Rattle.st_parser.specs.Inner.Parsers.{Outcome, and_then, Look, ahead, first, ◌⨟◌, name, sees, sees_name}
+use Rattle.st_parser.specs.Inner.ReadStatements.{sees_statement}
+use Rattle.st_parser.specs.Inner.ReadPrograms.{sees_block, blocks, program, finish, whole}
 use Rattle.st_parser.proofs.Lawful.{Is, Lawful, Took, Failed, and_then_ok, same_answer}
 use Rattle.st_parser.proofs.Parts.{pair, both}
 use Rattle.st_parser.proofs.Choices.{Always, Or, Not, expect_word, rebuilt}

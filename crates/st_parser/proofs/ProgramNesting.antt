@@ -1,5 +1,5 @@
 -- How deep programs nest.
-use Rattle.std.proofs.Common.{◌≡◌, ◌↔◌, ◌≤◌, ℕ, ◌+◌, max, Bool, List, [], ◌∷◌, ◌++◌, map, fold, Option, None, Some, arith, refl, ap, sym, ◌∙◌, append_assoc, append-nil}
+use Rattle.std.proofs.Common.{◌≡◌, ◌↔◌, ◌≤◌, ℕ, max, List, [], ◌∷◌, ◌++◌, Option, None, Some, arith, refl, ap, sym, ◌∙◌, append_assoc, append-nil}
 use Rattle.function_blocks.specs.declared.kinds.Kind.{Kind as Simple}
 use Rattle.function_blocks.specs.declared.kinds.Kind.TheVariants as simple
 use Rattle.function_blocks.specs.declared.blocks.BlockKind.{BlockKind}
@@ -18,10 +18,10 @@ use Rattle.st_tree.specs.declared.declaration.ExternalDeclaration.{ExternalDecla
 use Rattle.st_tree.specs.declared.declaration.Block.{Block}
 use Rattle.st_tree.specs.declared.declaration.Block.TheVariants as part
 use Rattle.st_tree.specs.declared.program.Tree.{Tree}
-use Rattle.st_tree.specs.Pieces.{Piece, Anywhere, Placed, ◌·◌, word, name, each}
+use Rattle.st_tree.specs.Pieces.{Anywhere, Placed, ◌·◌, word, name, each}
 use Rattle.st_tree.specs.Pieces as pieces
 use Rattle.st_tree.specs.Nesting.{nesting_with, too_deep_from, first_too_deep}
-use Rattle.st_tree.specs.TreeNesting.{deepest, type_nesting, block_nesting, body_nesting, nesting_of}
+use Rattle.st_tree.specs.TreeNesting.{type_nesting, block_nesting, body_nesting, nesting_of}
 use Rattle.st_tree.specs.Declarations.{spell_integer, spell_constant, simple_word, block_word, spell_type, spell_names, spell_declaration, spell_external, spell_block}
 use Rattle.st_tree.specs.Expressions.{truth_word}
 use Rattle.st_tree.specs.Statements.{spell_statement}

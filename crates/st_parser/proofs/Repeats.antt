@@ -2,7 +2,7 @@
 use Rattle.std.proofs.Common.{◌≡◌, ℕ, zero, suc, ◌+◌, ◌<◌, Bool, true, false, cond, ◌⊎◌, inl, inr, List, [], ◌∷◌, ◌++◌, length, Ok, Err, refl, ap, sym, ◌∙◌, subst, append_assoc, append-nil, length-append, arith}
 use Rattle.st_tree.specs.declared.token.Token.{Token}
 use Rattle.st_tree.specs.Pieces.{Piece, ArePieces, each}
-use Rattle.st_parser.specs.Parsers.{Outcome, Parser, and_then, refuse, first, Look, ahead, more_of, many}
+use Rattle.st_parser.specs.Inner.Parsers.{Outcome, Parser, and_then, refuse, first, Look, ahead, more_of, many}
 use Rattle.st_parser.proofs.Lawful.{Is, Took, Failed, Lawful, Fits, fits, first_same, ahead_same, split, join, and_then_ok, and_then_err, same_answer}
 use Rattle.st_parser.proofs.Choices.{Or, Not, or_left, or_right, not_true, nil_only}
 

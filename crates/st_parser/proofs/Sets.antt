@@ -6,7 +6,7 @@ use Rattle.st_tree.specs.declared.token.Fixed.{Fixed}
 use Rattle.st_tree.specs.declared.token.Fixed.TheVariants as w
 use Rattle.st_tree.specs.contracts.token.Fixed.{the_type}
 use Rattle.st_tree.specs.declared.token.TokenKind.TheVariants as kind
-use Rattle.st_parser.specs.Parsers.{Look}
+use Rattle.st_parser.specs.Inner.Parsers.{Look}
 use Rattle.st_parser.proofs.Lawful.{Fits}
 
 -- every reserved word and symbol

@@ -18,10 +18,10 @@ use Rattle.st_tree.specs.Pieces as pieces
 use Rattle.st_tree.specs.Expressions.{spell_expr}
 use Rattle.st_tree.specs.Declarations.{spell_integer}
 use Rattle.st_tree.specs.Statements.{spell_input, spell_inputs, spell_label, spell_statement}
-use Rattle.st_parser.specs.Parsers.{Parser, Look, place_of, name, sees, sees_name}
-use Rattle.st_parser.specs.ReadExpressions.{expr_at}
-use Rattle.st_parser.specs.ReadStatements as read
-use Rattle.st_parser.specs.ReadStatements.{sees_label, sees_statement, named, statements_at}
+use Rattle.st_parser.specs.Inner.Parsers.{Parser, Look, place_of, name, sees, sees_name}
+use Rattle.st_parser.specs.Inner.ReadExpressions.{expr_at}
+use Rattle.st_parser.specs.Inner.ReadStatements as read
+use Rattle.st_parser.specs.Inner.ReadStatements.{sees_label, sees_statement, named, statements_at}
 use Rattle.st_parser.proofs.Lawful.{Is, Lawful}
 use Rattle.st_parser.proofs.Parts.{pair, both}
 use Rattle.st_parser.proofs.Choices.{Always, Made, Either, Or, Not, recast, adjust, fewer, expect_word, after_word, made_part, rebuilt, either_part, maybe_part}

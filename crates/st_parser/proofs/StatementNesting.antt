@@ -1,5 +1,5 @@
 -- How deep statements nest.
-use Rattle.std.proofs.Common.{◌≡◌, ℕ, ◌+◌, max, List, [], ◌∷◌, ◌++◌, map, fold, Option, None, Some, arith, refl, ap, sym, ◌∙◌, subst, append_assoc, append-nil}
+use Rattle.std.proofs.Common.{◌≡◌, ℕ, ◌+◌, max, List, [], ◌∷◌, ◌++◌, map, Option, None, Some, arith, refl, ap, sym, ◌∙◌, subst, append_assoc, append-nil}
 use Rattle.std.specs.Option.{option_map}
 use Rattle.st_tree.specs.declared.token.Fixed.TheVariants as w
 use Rattle.st_tree.specs.declared.token.TokenKind.TheVariants as kind
@@ -14,7 +14,6 @@ use Rattle.st_tree.specs.declared.statement.Inputs.{Inputs}
 use Rattle.st_tree.specs.declared.statement.BlockCall.{BlockCall}
 use Rattle.st_tree.specs.declared.statement.Label.{Label}
 use Rattle.st_tree.specs.declared.statement.Statement.{Statement, roll-Statement, map-Statement, ind-Statement}
-use Rattle.st_tree.specs.declared.statement.Statement.TheVariants as st
 use Rattle.st_tree.specs.declared.statement.Statement.TheVariants.{rolls-Empty, rolls-Assignment, rolls-BlockCall, rolls-If, rolls-Case, rolls-For, rolls-Exit, rolls-Return}
 use Rattle.st_tree.specs.declared.statement.Branch.{Branch, roll-Branch, map-Branch}
 use Rattle.st_tree.specs.declared.statement.Element.{Element, roll-Element, map-Element}

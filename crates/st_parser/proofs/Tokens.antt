@@ -7,7 +7,7 @@ use Rattle.st_tree.specs.declared.token.Token.{Token}
 use Rattle.st_tree.specs.declared.declaration.PlacedName.{PlacedName}
 use Rattle.st_tree.specs.Pieces.{Piece, IsPiece, ArePieces, word, word_at, number_at}
 use Rattle.st_tree.specs.Pieces as pieces
-use Rattle.st_parser.specs.Parsers.{Parser, one, one_of, given, found, with_place, entry, entry_at, name, name_at, number, number_at as number_of, place_of, the_place, is_kind, sees, sees_name, sees_number, sees_some}
+use Rattle.st_parser.specs.Inner.Parsers.{Parser, one, one_of, given, found, with_place, entry, entry_at, name, name_at, number, number_at as number_of, place_of, the_place, is_kind, sees, sees_name, sees_number, sees_some}
 use Rattle.st_parser.proofs.Lawful.{Is, Lawful}
 use Rattle.st_parser.proofs.Choices.{Always, one_token, is_kind_true, is_kind_same}
 use Rattle.st_parser.proofs.Sets.{Table, written_so}

@@ -1,7 +1,7 @@
 -- A recursion on a count of turns, beside a loop that counts up.
 use Rattle.std.proofs.Common.{◌≡◌, ℕ, suc, ◌+◌, ◌-◌, ◌<◌, ◌≤◌, Bool, true, false, cond, List, [], ◌∷◌, ◌++◌, length, Ok, Err, ap, ◌∙◌, arith}
 use Rattle.st_tree.specs.declared.token.Token.{Token}
-use Rattle.st_parser.specs.Parsers.{Outcome, Parser, Look, ahead, and_then, more_of}
+use Rattle.st_parser.specs.Inner.Parsers.{Outcome, Parser, Look, ahead, and_then, more_of}
 
 pub one_more : {X : Type 0} {x : X} (f : ℕ → X) (end at : ℕ) → at < end → x ≡ f (end - at) → x ≡ f (suc (end - (at + 1)))
 one_more f end at below e = let turn : end - at ≡ suc (end - (at + 1)) = omega arith in e ∙ ap f turn

@@ -1,10 +1,3 @@
-pub mod Answers
-pub mod Parsers
-pub mod Tables
-pub mod ReadExpressions
-pub mod Nests
-pub mod Passed
-pub mod ReadDeclarations
-pub mod ReadStatements
-pub mod ReadPrograms
-pub mod NestsStatements
+pub mod Parsing
+pub mod TreeLaws
+pub mod Inner

@@ -1,9 +1,8 @@
-ghost use Rattle.std.specs.Prelude.{◌≡◌, length, Option, Some};
-ghost use Rattle.st_tree.specs.declared.token.Fixed.{Fixed};
-ghost use Rattle.st_parser.specs.Parsers.{Reads, ahead, rest, sees, sees_name, sees_number, expect, place_of, name, number, found, place_ahead, sees_some, entry, entry_at};
-ghost use Rattle.st_parser.specs.Passed.{Lists};
-ghost use Rattle.st_parser.specs.ReadStatements.{sees_label, sees_statement, starts_statement as starts};
-ghost use Rattle.st_parser.specs.ReadPrograms.{sees_block, finish};
+ghost use Rattle.std.specs.Prelude.{◌≡◌, length, Some};
+ghost use Rattle.st_parser.specs.Inner.Parsers.{Reads, ahead, rest, sees, sees_name, sees_number, expect, place_of, name, number, found, place_ahead, sees_some, entry, entry_at};
+ghost use Rattle.st_parser.specs.Inner.FunctionValues.{GivenBy, ReadsBy};
+ghost use Rattle.st_parser.specs.Inner.ReadStatements.{sees_label, sees_statement, starts_statement as starts};
+ghost use Rattle.st_parser.specs.Inner.ReadPrograms.{sees_block, finish};
 
 use crate::refusal::Refusal;
 use crate::tables::sign_word;
@@ -162,7 +161,7 @@ impl<'a> Cursor<'a> {
     /// What a table gives of the reserved word or symbol that comes next.
     fn found<A, T: Fn(Fixed) -> Option<A>>(&self, table: T) -> Option<A>
         requires { T.IsAlwaysCallable table }
-        ensures { (entries : Fixed → Option A) → Lists entries (T.post table) → result ≡ found entries (ahead self.now) }
+        ensures { GivenBy found (T.post table) self.now result }
     {
         match self.word() {
             Some(word) => table(word),
@@ -173,7 +172,7 @@ impl<'a> Cursor<'a> {
     /// A table gives something of the next token.
     pub fn sees_some<A: Drop, T: Fn(Fixed) -> Option<A>>(&self, table: T) -> bool
         requires { T.IsAlwaysCallable table }
-        ensures { (entries : Fixed → Option A) → Lists entries (T.post table) → result ≡ sees_some entries (ahead self.now) }
+        ensures { GivenBy sees_some (T.post table) self.now result }
     {
         self.found(table).is_some()
     }
@@ -181,7 +180,7 @@ impl<'a> Cursor<'a> {
     /// What a table gives of the next token.
     pub fn entry<A, T: Fn(Fixed) -> Option<A>>(&mut self, table: T) -> Result<A, Refusal>
         requires { T.IsAlwaysCallable table }
-        ensures { (entries : Fixed → Option A) → Lists entries (T.post table) → Reads (entry entries self.old) result self.new }
+        ensures { ReadsBy entry (T.post table) self.old result self.new }
     {
         match self.found(table) {
             Some(entry) => {
@@ -198,7 +197,7 @@ impl<'a> Cursor<'a> {
         table: T,
     ) -> Result<(A, usize), Refusal>
         requires { T.IsAlwaysCallable table }
-        ensures { (entries : Fixed → Option A) → Lists entries (T.post table) → Reads (entry_at entries self.old) result self.new }
+        ensures { ReadsBy entry_at (T.post table) self.old result self.new }
     {
         let place = self.place();
         let entry = self.entry(table)?;

@@ -1,7 +1,7 @@
 //! Declarations, with bounds on how often a part may be repeated: more than there are tokens.
 
-ghost use Rattle.st_parser.specs.Parsers.{Reads};
-ghost use Rattle.st_parser.specs.ReadDeclarations as spec;
+ghost use Rattle.st_parser.specs.Inner.Parsers.{Reads};
+ghost use Rattle.st_parser.specs.Inner.ReadDeclarations as spec;
 
 use crate::cursor::Cursor;
 use crate::many::many;
@@ -22,7 +22,7 @@ fn sign(tokens: &mut Cursor<'_>) -> Result<Option<(Sign, usize)>, Refusal>
     Ok(Some(tokens.entry_at(sign_word)?))
 }
 
-#[tactic(auto, unfolding(crate::specs::ReadDeclarations::integer))]
+#[tactic(auto, unfolding(crate::specs::Inner::ReadDeclarations::integer))]
 pub fn integer(tokens: &mut Cursor<'_>) -> Result<Integer, Refusal>
     ensures { Reads (spec.integer tokens.old) result tokens.new }
 {
@@ -35,7 +35,7 @@ pub fn integer(tokens: &mut Cursor<'_>) -> Result<Integer, Refusal>
     })
 }
 
-#[tactic(auto, unfolding(crate::specs::ReadDeclarations::constant))]
+#[tactic(auto, unfolding(crate::specs::Inner::ReadDeclarations::constant))]
 fn constant(tokens: &mut Cursor<'_>) -> Result<Constant, Refusal>
     ensures { Reads (spec.constant tokens.old) result tokens.new }
 {
@@ -52,7 +52,7 @@ fn simple(tokens: &mut Cursor<'_>) -> Result<Simple, Refusal>
     tokens.entry(simple_type)
 }
 
-#[tactic(auto, unfolding(crate::specs::ReadDeclarations::array))]
+#[tactic(auto, unfolding(crate::specs::Inner::ReadDeclarations::array))]
 fn array(tokens: &mut Cursor<'_>) -> Result<DeclaredType, Refusal>
     ensures { Reads (spec.array tokens.old) result tokens.new }
 {
@@ -67,7 +67,7 @@ fn array(tokens: &mut Cursor<'_>) -> Result<DeclaredType, Refusal>
     Ok(DeclaredType::Array { low, high, element })
 }
 
-#[tactic(auto, unfolding(crate::specs::ReadDeclarations::declared_type))]
+#[tactic(auto, unfolding(crate::specs::Inner::ReadDeclarations::declared_type))]
 fn declared_type(tokens: &mut Cursor<'_>) -> Result<DeclaredType, Refusal>
     ensures { Reads (spec.declared_type tokens.old) result tokens.new }
 {
@@ -80,7 +80,7 @@ fn declared_type(tokens: &mut Cursor<'_>) -> Result<DeclaredType, Refusal>
     Ok(DeclaredType::Block(tokens.entry(block_kind)?))
 }
 
-#[tactic(auto, unfolding(crate::specs::ReadDeclarations::next_name))]
+#[tactic(auto, unfolding(crate::specs::Inner::ReadDeclarations::next_name))]
 fn next_name(tokens: &mut Cursor<'_>) -> Result<PlacedName, Refusal>
     ensures { Reads (spec.next_name tokens.old) result tokens.new }
 {
@@ -88,7 +88,7 @@ fn next_name(tokens: &mut Cursor<'_>) -> Result<PlacedName, Refusal>
     tokens.name()
 }
 
-#[tactic(auto, unfolding(crate::specs::ReadDeclarations::names))]
+#[tactic(auto, unfolding(crate::specs::Inner::ReadDeclarations::names))]
 fn names(alloc: Global, tokens: &mut Cursor<'_>, turns: usize) -> Result<Names, Refusal>
     ensures { Reads (spec.names turns tokens.old) result tokens.new }
 {
@@ -113,7 +113,7 @@ fn first_value(tokens: &mut Cursor<'_>) -> Result<Option<Constant>, Refusal>
     Ok(Some(constant(tokens)?))
 }
 
-#[tactic(auto, unfolding(crate::specs::ReadDeclarations::declaration))]
+#[tactic(auto, unfolding(crate::specs::Inner::ReadDeclarations::declaration))]
 fn declaration(alloc: Global, tokens: &mut Cursor<'_>, turns: usize) -> Result<Declaration, Refusal>
     ensures { Reads (spec.declaration turns tokens.old) result tokens.new }
 {
@@ -129,7 +129,7 @@ fn declaration(alloc: Global, tokens: &mut Cursor<'_>, turns: usize) -> Result<D
     })
 }
 
-#[tactic(auto, unfolding(crate::specs::ReadDeclarations::external))]
+#[tactic(auto, unfolding(crate::specs::Inner::ReadDeclarations::external))]
 fn external(
     alloc: Global,
     tokens: &mut Cursor<'_>,
@@ -144,7 +144,7 @@ fn external(
     Ok(ExternalDeclaration { names, declared })
 }
 
-#[tactic(auto, unfolding(crate::specs::ReadDeclarations::plain_block))]
+#[tactic(auto, unfolding(crate::specs::Inner::ReadDeclarations::plain_block))]
 fn plain_block(alloc: Global, tokens: &mut Cursor<'_>, turns: usize) -> Result<Block, Refusal>
     ensures { Reads (spec.plain_block turns tokens.old) result tokens.new }
 {
@@ -160,7 +160,7 @@ fn plain_block(alloc: Global, tokens: &mut Cursor<'_>, turns: usize) -> Result<B
     Ok(Block::Plain(found))
 }
 
-#[tactic(auto, unfolding(crate::specs::ReadDeclarations::external_block))]
+#[tactic(auto, unfolding(crate::specs::Inner::ReadDeclarations::external_block))]
 fn external_block(alloc: Global, tokens: &mut Cursor<'_>, turns: usize) -> Result<Block, Refusal>
     ensures { Reads (spec.external_block turns tokens.old) result tokens.new }
 {
@@ -176,7 +176,7 @@ fn external_block(alloc: Global, tokens: &mut Cursor<'_>, turns: usize) -> Resul
     Ok(Block::External(found))
 }
 
-#[tactic(auto, unfolding(crate::specs::ReadDeclarations::block))]
+#[tactic(auto, unfolding(crate::specs::Inner::ReadDeclarations::block))]
 pub fn block(alloc: Global, tokens: &mut Cursor<'_>, turns: usize) -> Result<Block, Refusal>
     ensures { Reads (spec.block turns tokens.old) result tokens.new }
 {

@@ -1,44 +1,42 @@
-//! Expressions. Each rule takes the reader of whole expressions as a value, so that it is proved by itself.
+//! Expressions. Each rule takes the reader of whole expressions as a value, so that it is proved by
+//! itself.
 
-ghost use Rattle.st_parser.specs.Parsers.{Reads};
-ghost use Rattle.st_parser.specs.ReadExpressions as spec;
-ghost use Rattle.st_parser.specs.ReadExpressions.{expr_at};
-ghost use Rattle.st_parser.specs.Nests.{Nests};
+ghost use Rattle.st_parser.specs.Inner.Parsers.{Reads};
+ghost use Rattle.st_parser.specs.Inner.ReadExpressions as spec;
+ghost use Rattle.st_parser.specs.Inner.ReadExpressions.{expr_at, within};
+ghost use Rattle.st_parser.specs.Inner.InnerExpr.{InnerExpr};
 
+use crate::bounds::Bounds;
 use crate::cursor::Cursor;
 use crate::many::many;
 use crate::refusal::Refusal;
 use crate::tables::{
     add_operator, compare_operator, equal_operator, function_word, multiply_operator, truth_value,
 };
-use sqlite_items::Boxed;
 use st_tree::{
-    AddOperator, Arguments, CompareOperator, Comparison, Conjunction, EqualOperator, Equality,
-    Exclusive, Expr, Fixed, MultiplyOperator, Operation, Primary, Product, Sum, Unary,
+    AddOperator, Arguments, Boxed, CompareOperator, Comparison, Conjunction, EqualOperator,
+    Equality, Exclusive, Expr, Fixed, MultiplyOperator, Operation, Primary, Product, Sum, Unary,
 };
 use std::alloc::Global;
 
 #[derive(Clone, Copy)]
 pub struct Expressions<F> {
     pub alloc: Global,
-    /// How often a part may be repeated: more than there are tokens.
-    pub turns: usize,
-    /// How deep expressions inside may nest.
-    pub levels: usize,
+    pub bounds: Bounds,
     pub inner: F,
 }
 
 impl<F: Fn(Global, &mut Cursor<'_>, usize) -> Result<Expr, Refusal>> Expressions<F> {
     fn inner(&self, tokens: &mut Cursor<'_>) -> Result<Expr, Refusal>
-        requires { Nests self.now.levels (F.pre self.now.inner) (F.post self.now.inner) }
-        ensures { Reads (expr_at self.now.levels tokens.old) result tokens.new }
+        requires { InnerExpr self.now.bounds (F.pre self.now.inner) (F.post self.now.inner) }
+        ensures { Reads (expr_at self.now.bounds.levels tokens.old) result tokens.new }
     {
-        (self.inner)(self.alloc, tokens, self.levels)
+        (self.inner)(self.alloc, tokens, self.bounds.levels)
     }
 
     fn index(&self, tokens: &mut Cursor<'_>) -> Result<Expr, Refusal>
-        requires { Nests self.now.levels (F.pre self.now.inner) (F.post self.now.inner) }
-        ensures { Reads (spec.index self.now.turns (expr_at self.now.levels) tokens.old) result tokens.new }
+        requires { InnerExpr self.now.bounds (F.pre self.now.inner) (F.post self.now.inner) }
+        ensures { Reads (within spec.index self.now.bounds tokens.old) result tokens.new }
     {
         let index = self.inner(tokens)?;
         tokens.expect(Fixed::CloseBracket)?;
@@ -46,8 +44,8 @@ impl<F: Fn(Global, &mut Cursor<'_>, usize) -> Result<Expr, Refusal>> Expressions
     }
 
     fn named_primary(&self, tokens: &mut Cursor<'_>) -> Result<Primary, Refusal>
-        requires { Nests self.now.levels (F.pre self.now.inner) (F.post self.now.inner) }
-        ensures { Reads (spec.named_primary self.now.turns (expr_at self.now.levels) tokens.old) result tokens.new }
+        requires { InnerExpr self.now.bounds (F.pre self.now.inner) (F.post self.now.inner) }
+        ensures { Reads (within spec.named_primary self.now.bounds tokens.old) result tokens.new }
     {
         let name = tokens.name()?;
         if tokens.sees(Fixed::Dot) {
@@ -64,8 +62,8 @@ impl<F: Fn(Global, &mut Cursor<'_>, usize) -> Result<Expr, Refusal>> Expressions
     }
 
     fn bracketed(&self, tokens: &mut Cursor<'_>) -> Result<Primary, Refusal>
-        requires { Nests self.now.levels (F.pre self.now.inner) (F.post self.now.inner) }
-        ensures { Reads (spec.bracketed self.now.turns (expr_at self.now.levels) tokens.old) result tokens.new }
+        requires { InnerExpr self.now.bounds (F.pre self.now.inner) (F.post self.now.inner) }
+        ensures { Reads (within spec.bracketed self.now.bounds tokens.old) result tokens.new }
     {
         let place = tokens.place_of(Fixed::OpenParen)?;
         let inside = self.inner(tokens)?;
@@ -75,21 +73,21 @@ impl<F: Fn(Global, &mut Cursor<'_>, usize) -> Result<Expr, Refusal>> Expressions
     }
 
     fn next_argument(&self, tokens: &mut Cursor<'_>) -> Result<Expr, Refusal>
-        requires { Nests self.now.levels (F.pre self.now.inner) (F.post self.now.inner) }
-        ensures { Reads (spec.next_argument self.now.turns (expr_at self.now.levels) tokens.old) result tokens.new }
+        requires { InnerExpr self.now.bounds (F.pre self.now.inner) (F.post self.now.inner) }
+        ensures { Reads (within spec.next_argument self.now.bounds tokens.old) result tokens.new }
     {
         tokens.expect(Fixed::Comma)?;
         self.inner(tokens)
     }
 
     fn arguments(&self, tokens: &mut Cursor<'_>) -> Result<Arguments, Refusal>
-        requires { Nests self.now.levels (F.pre self.now.inner) (F.post self.now.inner) }
-        ensures { Reads (spec.arguments self.now.turns (expr_at self.now.levels) tokens.old) result tokens.new }
+        requires { InnerExpr self.now.bounds (F.pre self.now.inner) (F.post self.now.inner) }
+        ensures { Reads (within spec.arguments self.now.bounds tokens.old) result tokens.new }
     {
         let first = self.inner(tokens)?;
         let more = many(
             self.alloc,
-            self.turns,
+            self.bounds.turns,
             tokens,
             |tokens| tokens.sees(Fixed::Comma),
             |tokens| self.next_argument(tokens),
@@ -98,8 +96,8 @@ impl<F: Fn(Global, &mut Cursor<'_>, usize) -> Result<Expr, Refusal>> Expressions
     }
 
     fn call(&self, tokens: &mut Cursor<'_>) -> Result<Primary, Refusal>
-        requires { Nests self.now.levels (F.pre self.now.inner) (F.post self.now.inner) }
-        ensures { Reads (spec.call self.now.turns (expr_at self.now.levels) tokens.old) result tokens.new }
+        requires { InnerExpr self.now.bounds (F.pre self.now.inner) (F.post self.now.inner) }
+        ensures { Reads (within spec.call self.now.bounds tokens.old) result tokens.new }
     {
         let (function, place) = tokens.entry_at(function_word)?;
         tokens.expect(Fixed::OpenParen)?;
@@ -109,10 +107,10 @@ impl<F: Fn(Global, &mut Cursor<'_>, usize) -> Result<Expr, Refusal>> Expressions
         Ok(Primary::Call(function, place, arguments))
     }
 
-    #[tactic(auto, unfolding(crate::specs::ReadExpressions::primary_of))]
+    #[tactic(auto, unfolding(crate::specs::Inner::ReadExpressions::primary_of))]
     fn primary(&self, tokens: &mut Cursor<'_>) -> Result<Primary, Refusal>
-        requires { Nests self.now.levels (F.pre self.now.inner) (F.post self.now.inner) }
-        ensures { Reads (spec.primary_of self.now.turns (expr_at self.now.levels) tokens.old) result tokens.new }
+        requires { InnerExpr self.now.bounds (F.pre self.now.inner) (F.post self.now.inner) }
+        ensures { Reads (within spec.primary_of self.now.bounds tokens.old) result tokens.new }
     {
         if tokens.sees_number() {
             let (number, place) = tokens.number()?;
@@ -131,10 +129,10 @@ impl<F: Fn(Global, &mut Cursor<'_>, usize) -> Result<Expr, Refusal>> Expressions
         }
     }
 
-    #[tactic(auto, unfolding(crate::specs::ReadExpressions::unary_of))]
+    #[tactic(auto, unfolding(crate::specs::Inner::ReadExpressions::unary_of))]
     fn unary(&self, tokens: &mut Cursor<'_>) -> Result<Unary, Refusal>
-        requires { Nests self.now.levels (F.pre self.now.inner) (F.post self.now.inner) }
-        ensures { Reads (spec.unary_of self.now.turns (expr_at self.now.levels) tokens.old) result tokens.new }
+        requires { InnerExpr self.now.bounds (F.pre self.now.inner) (F.post self.now.inner) }
+        ensures { Reads (within spec.unary_of self.now.bounds tokens.old) result tokens.new }
     {
         if tokens.sees(Fixed::Minus) {
             let place = tokens.place_of(Fixed::Minus)?;
@@ -148,23 +146,23 @@ impl<F: Fn(Global, &mut Cursor<'_>, usize) -> Result<Expr, Refusal>> Expressions
     }
 
     fn factor(&self, tokens: &mut Cursor<'_>) -> Result<Operation<MultiplyOperator, Unary>, Refusal>
-        requires { Nests self.now.levels (F.pre self.now.inner) (F.post self.now.inner) }
-        ensures { Reads (spec.factor self.now.turns (expr_at self.now.levels) tokens.old) result tokens.new }
+        requires { InnerExpr self.now.bounds (F.pre self.now.inner) (F.post self.now.inner) }
+        ensures { Reads (within spec.factor self.now.bounds tokens.old) result tokens.new }
     {
         let operator = tokens.entry(multiply_operator)?;
         let operand = self.unary(tokens)?;
         Ok(Operation { operator, operand })
     }
 
-    #[tactic(auto, unfolding(crate::specs::ReadExpressions::product_of))]
+    #[tactic(auto, unfolding(crate::specs::Inner::ReadExpressions::product_of))]
     fn product(&self, tokens: &mut Cursor<'_>) -> Result<Product, Refusal>
-        requires { Nests self.now.levels (F.pre self.now.inner) (F.post self.now.inner) }
-        ensures { Reads (spec.product_of self.now.turns (expr_at self.now.levels) tokens.old) result tokens.new }
+        requires { InnerExpr self.now.bounds (F.pre self.now.inner) (F.post self.now.inner) }
+        ensures { Reads (within spec.product_of self.now.bounds tokens.old) result tokens.new }
     {
         let first = self.unary(tokens)?;
         let more = many(
             self.alloc,
-            self.turns,
+            self.bounds.turns,
             tokens,
             |tokens| tokens.sees_some(multiply_operator),
             |tokens| self.factor(tokens),
@@ -173,23 +171,23 @@ impl<F: Fn(Global, &mut Cursor<'_>, usize) -> Result<Expr, Refusal>> Expressions
     }
 
     fn term(&self, tokens: &mut Cursor<'_>) -> Result<Operation<AddOperator, Product>, Refusal>
-        requires { Nests self.now.levels (F.pre self.now.inner) (F.post self.now.inner) }
-        ensures { Reads (spec.term self.now.turns (expr_at self.now.levels) tokens.old) result tokens.new }
+        requires { InnerExpr self.now.bounds (F.pre self.now.inner) (F.post self.now.inner) }
+        ensures { Reads (within spec.term self.now.bounds tokens.old) result tokens.new }
     {
         let operator = tokens.entry(add_operator)?;
         let operand = self.product(tokens)?;
         Ok(Operation { operator, operand })
     }
 
-    #[tactic(auto, unfolding(crate::specs::ReadExpressions::sum_of))]
+    #[tactic(auto, unfolding(crate::specs::Inner::ReadExpressions::sum_of))]
     fn sum(&self, tokens: &mut Cursor<'_>) -> Result<Sum, Refusal>
-        requires { Nests self.now.levels (F.pre self.now.inner) (F.post self.now.inner) }
-        ensures { Reads (spec.sum_of self.now.turns (expr_at self.now.levels) tokens.old) result tokens.new }
+        requires { InnerExpr self.now.bounds (F.pre self.now.inner) (F.post self.now.inner) }
+        ensures { Reads (within spec.sum_of self.now.bounds tokens.old) result tokens.new }
     {
         let first = self.product(tokens)?;
         let more = many(
             self.alloc,
-            self.turns,
+            self.bounds.turns,
             tokens,
             |tokens| tokens.sees_some(add_operator),
             |tokens| self.term(tokens),
@@ -201,23 +199,23 @@ impl<F: Fn(Global, &mut Cursor<'_>, usize) -> Result<Expr, Refusal>> Expressions
         &self,
         tokens: &mut Cursor<'_>,
     ) -> Result<Operation<CompareOperator, Sum>, Refusal>
-        requires { Nests self.now.levels (F.pre self.now.inner) (F.post self.now.inner) }
-        ensures { Reads (spec.compared_part self.now.turns (expr_at self.now.levels) tokens.old) result tokens.new }
+        requires { InnerExpr self.now.bounds (F.pre self.now.inner) (F.post self.now.inner) }
+        ensures { Reads (within spec.compared_part self.now.bounds tokens.old) result tokens.new }
     {
         let operator = tokens.entry(compare_operator)?;
         let operand = self.sum(tokens)?;
         Ok(Operation { operator, operand })
     }
 
-    #[tactic(auto, unfolding(crate::specs::ReadExpressions::comparison_of))]
+    #[tactic(auto, unfolding(crate::specs::Inner::ReadExpressions::comparison_of))]
     fn comparison(&self, tokens: &mut Cursor<'_>) -> Result<Comparison, Refusal>
-        requires { Nests self.now.levels (F.pre self.now.inner) (F.post self.now.inner) }
-        ensures { Reads (spec.comparison_of self.now.turns (expr_at self.now.levels) tokens.old) result tokens.new }
+        requires { InnerExpr self.now.bounds (F.pre self.now.inner) (F.post self.now.inner) }
+        ensures { Reads (within spec.comparison_of self.now.bounds tokens.old) result tokens.new }
     {
         let first = self.sum(tokens)?;
         let more = many(
             self.alloc,
-            self.turns,
+            self.bounds.turns,
             tokens,
             |tokens| tokens.sees_some(compare_operator),
             |tokens| self.compared_part(tokens),
@@ -229,23 +227,23 @@ impl<F: Fn(Global, &mut Cursor<'_>, usize) -> Result<Expr, Refusal>> Expressions
         &self,
         tokens: &mut Cursor<'_>,
     ) -> Result<Operation<EqualOperator, Comparison>, Refusal>
-        requires { Nests self.now.levels (F.pre self.now.inner) (F.post self.now.inner) }
-        ensures { Reads (spec.equated_part self.now.turns (expr_at self.now.levels) tokens.old) result tokens.new }
+        requires { InnerExpr self.now.bounds (F.pre self.now.inner) (F.post self.now.inner) }
+        ensures { Reads (within spec.equated_part self.now.bounds tokens.old) result tokens.new }
     {
         let operator = tokens.entry(equal_operator)?;
         let operand = self.comparison(tokens)?;
         Ok(Operation { operator, operand })
     }
 
-    #[tactic(auto, unfolding(crate::specs::ReadExpressions::equality_of))]
+    #[tactic(auto, unfolding(crate::specs::Inner::ReadExpressions::equality_of))]
     fn equality(&self, tokens: &mut Cursor<'_>) -> Result<Equality, Refusal>
-        requires { Nests self.now.levels (F.pre self.now.inner) (F.post self.now.inner) }
-        ensures { Reads (spec.equality_of self.now.turns (expr_at self.now.levels) tokens.old) result tokens.new }
+        requires { InnerExpr self.now.bounds (F.pre self.now.inner) (F.post self.now.inner) }
+        ensures { Reads (within spec.equality_of self.now.bounds tokens.old) result tokens.new }
     {
         let first = self.comparison(tokens)?;
         let more = many(
             self.alloc,
-            self.turns,
+            self.bounds.turns,
             tokens,
             |tokens| tokens.sees_some(equal_operator),
             |tokens| self.equated_part(tokens),
@@ -254,22 +252,22 @@ impl<F: Fn(Global, &mut Cursor<'_>, usize) -> Result<Expr, Refusal>> Expressions
     }
 
     fn conjunct(&self, tokens: &mut Cursor<'_>) -> Result<Equality, Refusal>
-        requires { Nests self.now.levels (F.pre self.now.inner) (F.post self.now.inner) }
-        ensures { Reads (spec.conjunct self.now.turns (expr_at self.now.levels) tokens.old) result tokens.new }
+        requires { InnerExpr self.now.bounds (F.pre self.now.inner) (F.post self.now.inner) }
+        ensures { Reads (within spec.conjunct self.now.bounds tokens.old) result tokens.new }
     {
         tokens.expect(Fixed::And)?;
         self.equality(tokens)
     }
 
-    #[tactic(auto, unfolding(crate::specs::ReadExpressions::conjunction_of))]
+    #[tactic(auto, unfolding(crate::specs::Inner::ReadExpressions::conjunction_of))]
     fn conjunction(&self, tokens: &mut Cursor<'_>) -> Result<Conjunction, Refusal>
-        requires { Nests self.now.levels (F.pre self.now.inner) (F.post self.now.inner) }
-        ensures { Reads (spec.conjunction_of self.now.turns (expr_at self.now.levels) tokens.old) result tokens.new }
+        requires { InnerExpr self.now.bounds (F.pre self.now.inner) (F.post self.now.inner) }
+        ensures { Reads (within spec.conjunction_of self.now.bounds tokens.old) result tokens.new }
     {
         let first = self.equality(tokens)?;
         let more = many(
             self.alloc,
-            self.turns,
+            self.bounds.turns,
             tokens,
             |tokens| tokens.sees(Fixed::And),
             |tokens| self.conjunct(tokens),
@@ -278,22 +276,22 @@ impl<F: Fn(Global, &mut Cursor<'_>, usize) -> Result<Expr, Refusal>> Expressions
     }
 
     fn exclusive_part(&self, tokens: &mut Cursor<'_>) -> Result<Conjunction, Refusal>
-        requires { Nests self.now.levels (F.pre self.now.inner) (F.post self.now.inner) }
-        ensures { Reads (spec.exclusive_part self.now.turns (expr_at self.now.levels) tokens.old) result tokens.new }
+        requires { InnerExpr self.now.bounds (F.pre self.now.inner) (F.post self.now.inner) }
+        ensures { Reads (within spec.exclusive_part self.now.bounds tokens.old) result tokens.new }
     {
         tokens.expect(Fixed::Xor)?;
         self.conjunction(tokens)
     }
 
-    #[tactic(auto, unfolding(crate::specs::ReadExpressions::exclusive_of))]
+    #[tactic(auto, unfolding(crate::specs::Inner::ReadExpressions::exclusive_of))]
     fn exclusive(&self, tokens: &mut Cursor<'_>) -> Result<Exclusive, Refusal>
-        requires { Nests self.now.levels (F.pre self.now.inner) (F.post self.now.inner) }
-        ensures { Reads (spec.exclusive_of self.now.turns (expr_at self.now.levels) tokens.old) result tokens.new }
+        requires { InnerExpr self.now.bounds (F.pre self.now.inner) (F.post self.now.inner) }
+        ensures { Reads (within spec.exclusive_of self.now.bounds tokens.old) result tokens.new }
     {
         let first = self.conjunction(tokens)?;
         let more = many(
             self.alloc,
-            self.turns,
+            self.bounds.turns,
             tokens,
             |tokens| tokens.sees(Fixed::Xor),
             |tokens| self.exclusive_part(tokens),
@@ -302,22 +300,22 @@ impl<F: Fn(Global, &mut Cursor<'_>, usize) -> Result<Expr, Refusal>> Expressions
     }
 
     fn alternative(&self, tokens: &mut Cursor<'_>) -> Result<Exclusive, Refusal>
-        requires { Nests self.now.levels (F.pre self.now.inner) (F.post self.now.inner) }
-        ensures { Reads (spec.alternative self.now.turns (expr_at self.now.levels) tokens.old) result tokens.new }
+        requires { InnerExpr self.now.bounds (F.pre self.now.inner) (F.post self.now.inner) }
+        ensures { Reads (within spec.alternative self.now.bounds tokens.old) result tokens.new }
     {
         tokens.expect(Fixed::Or)?;
         self.exclusive(tokens)
     }
 
-    #[tactic(auto, unfolding(crate::specs::ReadExpressions::whole_of))]
+    #[tactic(auto, unfolding(crate::specs::Inner::ReadExpressions::whole_of))]
     pub fn whole(&self, tokens: &mut Cursor<'_>) -> Result<Expr, Refusal>
-        requires { Nests self.now.levels (F.pre self.now.inner) (F.post self.now.inner) }
-        ensures { Reads (spec.whole_of self.now.turns (expr_at self.now.levels) tokens.old) result tokens.new }
+        requires { InnerExpr self.now.bounds (F.pre self.now.inner) (F.post self.now.inner) }
+        ensures { Reads (within spec.whole_of self.now.bounds tokens.old) result tokens.new }
     {
         let first = self.exclusive(tokens)?;
         let more = many(
             self.alloc,
-            self.turns,
+            self.bounds.turns,
             tokens,
             |tokens| tokens.sees(Fixed::Or),
             |tokens| self.alternative(tokens),
@@ -335,8 +333,10 @@ pub fn expr(alloc: Global, tokens: &mut Cursor<'_>, levels: usize) -> Result<Exp
     }
     Expressions {
         alloc,
-        turns: levels,
-        levels: levels - 1,
+        bounds: Bounds {
+            turns: levels,
+            levels: levels - 1,
+        },
         inner: expr,
     }
     .whole(tokens)

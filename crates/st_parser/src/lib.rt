@@ -1,6 +1,7 @@
 //! Parses a Structured Text program: how deep its tokens nest, and the tree that spells them.
 #![tactic(auto)]
 
+mod bounds;
 mod cursor;
 mod declarations;
 mod expressions;

@@ -1,12 +1,10 @@
 //! Parts that are repeated.
 
-ghost use Rattle.std.specs.Prelude.{Bool};
-ghost use Rattle.st_parser.specs.Parsers.{Look, Parser, Reads, many};
-ghost use Rattle.st_parser.specs.Passed.{Tells, Parses};
+ghost use Rattle.st_parser.specs.Inner.FunctionValues.{ReadsMany};
 
 use crate::cursor::Cursor;
 use crate::refusal::Refusal;
-use sqlite_items::Items;
+use st_tree::Items;
 use std::alloc::Global;
 
 /// The part as often as one comes, and at most so many times.
@@ -22,7 +20,7 @@ where
     P: Fn(&mut Cursor<'_>) -> Result<A, Refusal>,
     requires comes { C.IsAlwaysCallable comes }
     requires part { P.IsAlwaysCallable part }
-    ensures { (test : Look → Bool) → (p : Parser A) → Tells test (C.post comes) → Parses p (P.post part) → Reads (many test p turns tokens.old) result tokens.new }
+    ensures { ReadsMany turns (C.post comes) (P.post part) tokens.old result tokens.new }
 {
     let mut found = Items::new(alloc);
     for _turn in 0..turns {

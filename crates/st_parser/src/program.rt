@@ -1,8 +1,8 @@
 //! Programs.
 
 ghost use Rattle.std.specs.Prelude.{◌≡◌, ◌<◌, ◌+◌, ◌^◌, length};
-ghost use Rattle.st_parser.specs.Parsers.{Reads};
-ghost use Rattle.st_parser.specs.ReadPrograms as spec;
+ghost use Rattle.st_parser.specs.Inner.Parsers.{Reads};
+ghost use Rattle.st_parser.specs.Inner.ReadPrograms as spec;
 
 use crate::cursor::Cursor;
 use crate::declarations::block;
@@ -12,7 +12,7 @@ use crate::statements::statements;
 use st_tree::{Block, Fixed, Token, Tree};
 use std::alloc::Global;
 
-#[tactic(auto, unfolding(crate::specs::ReadPrograms::program))]
+#[tactic(auto, unfolding(crate::specs::Inner::ReadPrograms::program))]
 fn program(alloc: Global, tokens: &mut Cursor<'_>, turns: usize) -> Result<Tree, Refusal>
     ensures { Reads (spec.program turns tokens.old) result tokens.new }
 {
@@ -35,7 +35,7 @@ fn program(alloc: Global, tokens: &mut Cursor<'_>, turns: usize) -> Result<Tree,
 }
 
 /// The program that all of the tokens spell.
-#[tactic(auto, unfolding(crate::specs::ReadPrograms::whole))]
+#[tactic(auto, unfolding(crate::specs::Inner::ReadPrograms::whole))]
 pub fn whole(alloc: Global, tokens: &[Token]) -> Result<Tree, Refusal>
     ensures { spec.Gives (spec.whole (length tokens.now + 1) tokens.now) result }
 {

@@ -1,19 +1,21 @@
-//! Statements. Each rule takes the reader of the statements inside as a value, so that it is proved by itself.
+//! Statements. Each rule takes the reader of the statements inside as a value, so that it is proved
+//! by itself.
 
-ghost use Rattle.st_parser.specs.Parsers.{Reads};
-ghost use Rattle.st_parser.specs.ReadStatements as spec;
-ghost use Rattle.st_parser.specs.ReadStatements.{statements_at};
-ghost use Rattle.st_parser.specs.ReadExpressions.{expr_at};
-ghost use Rattle.st_parser.specs.NestsStatements.{NestsStatements};
+ghost use Rattle.st_parser.specs.Inner.Parsers.{Reads};
+ghost use Rattle.st_parser.specs.Inner.ReadStatements as spec;
+ghost use Rattle.st_parser.specs.Inner.ReadStatements.{statements_at, within};
+ghost use Rattle.st_parser.specs.Inner.ReadExpressions.{expr_at};
+ghost use Rattle.st_parser.specs.Inner.InnerStatements.{InnerStatements};
 
+use crate::bounds::Bounds;
 use crate::cursor::Cursor;
 use crate::declarations::integer;
 use crate::expressions::expr;
 use crate::many::many;
 use crate::refusal::Refusal;
-use sqlite_items::Items;
 use st_tree::{
-    Assignment, BlockCall, Branch, Element, Expr, Fixed, Input, Inputs, Integer, Label, Statement,
+    Assignment, BlockCall, Branch, Element, Expr, Fixed, Input, Inputs, Integer, Items, Label,
+    Statement,
 };
 use std::alloc::Global;
 
@@ -27,7 +29,7 @@ fn range_end(tokens: &mut Cursor<'_>) -> Result<Option<Integer>, Refusal>
     Ok(Some(integer(tokens)?))
 }
 
-#[tactic(auto, unfolding(crate::specs::ReadStatements::label))]
+#[tactic(auto, unfolding(crate::specs::Inner::ReadStatements::label))]
 fn label(tokens: &mut Cursor<'_>) -> Result<Label, Refusal>
     ensures { Reads (spec.label tokens.old) result tokens.new }
 {
@@ -36,7 +38,7 @@ fn label(tokens: &mut Cursor<'_>) -> Result<Label, Refusal>
     Ok(Label { low, high })
 }
 
-#[tactic(auto, unfolding(crate::specs::ReadStatements::next_label))]
+#[tactic(auto, unfolding(crate::specs::Inner::ReadStatements::next_label))]
 fn next_label(tokens: &mut Cursor<'_>) -> Result<Label, Refusal>
     ensures { Reads (spec.next_label tokens.old) result tokens.new }
 {
@@ -57,31 +59,28 @@ fn step(tokens: &mut Cursor<'_>) -> Result<Option<Integer>, Refusal>
 #[derive(Clone, Copy)]
 pub struct StatementRules<G> {
     pub alloc: Global,
-    /// How often a part may be repeated: more than there are tokens.
-    pub turns: usize,
-    /// How deep expressions and statements inside may nest.
-    pub levels: usize,
+    pub bounds: Bounds,
     pub inner: G,
 }
 
 impl<G: Fn(Global, &mut Cursor<'_>, usize) -> Result<Items<Statement>, Refusal>> StatementRules<G> {
     fn inner(&self, tokens: &mut Cursor<'_>) -> Result<Items<Statement>, Refusal>
-        requires { NestsStatements self.now.levels (G.pre self.now.inner) (G.post self.now.inner) }
-        ensures { Reads (statements_at self.now.levels tokens.old) result tokens.new }
+        requires { InnerStatements self.now.bounds (G.pre self.now.inner) (G.post self.now.inner) }
+        ensures { Reads (statements_at self.now.bounds.levels tokens.old) result tokens.new }
     {
-        (self.inner)(self.alloc, tokens, self.levels)
+        (self.inner)(self.alloc, tokens, self.bounds.levels)
     }
 
     fn expr(&self, tokens: &mut Cursor<'_>) -> Result<Expr, Refusal>
-        ensures { Reads (expr_at self.now.levels tokens.old) result tokens.new }
+        ensures { Reads (expr_at self.now.bounds.levels tokens.old) result tokens.new }
     {
-        expr(self.alloc, tokens, self.levels)
+        expr(self.alloc, tokens, self.bounds.levels)
     }
 
-    #[tactic(auto, unfolding(crate::specs::ReadStatements::input))]
+    #[tactic(auto, unfolding(crate::specs::Inner::ReadStatements::input))]
     fn input(&self, tokens: &mut Cursor<'_>) -> Result<Input, Refusal>
-        requires { NestsStatements self.now.levels (G.pre self.now.inner) (G.post self.now.inner) }
-        ensures { Reads (spec.input self.now.turns (expr_at self.now.levels) (statements_at self.now.levels) tokens.old) result tokens.new }
+        requires { InnerStatements self.now.bounds (G.pre self.now.inner) (G.post self.now.inner) }
+        ensures { Reads (within spec.input self.now.bounds tokens.old) result tokens.new }
     {
         let name = tokens.name()?;
         tokens.expect(Fixed::Assign)?;
@@ -89,24 +88,24 @@ impl<G: Fn(Global, &mut Cursor<'_>, usize) -> Result<Items<Statement>, Refusal>>
         Ok(Input { name, value })
     }
 
-    #[tactic(auto, unfolding(crate::specs::ReadStatements::next_input))]
+    #[tactic(auto, unfolding(crate::specs::Inner::ReadStatements::next_input))]
     fn next_input(&self, tokens: &mut Cursor<'_>) -> Result<Input, Refusal>
-        requires { NestsStatements self.now.levels (G.pre self.now.inner) (G.post self.now.inner) }
-        ensures { Reads (spec.next_input self.now.turns (expr_at self.now.levels) (statements_at self.now.levels) tokens.old) result tokens.new }
+        requires { InnerStatements self.now.bounds (G.pre self.now.inner) (G.post self.now.inner) }
+        ensures { Reads (within spec.next_input self.now.bounds tokens.old) result tokens.new }
     {
         tokens.expect(Fixed::Comma)?;
         self.input(tokens)
     }
 
-    #[tactic(auto, unfolding(crate::specs::ReadStatements::inputs))]
+    #[tactic(auto, unfolding(crate::specs::Inner::ReadStatements::inputs))]
     fn inputs(&self, tokens: &mut Cursor<'_>) -> Result<Inputs, Refusal>
-        requires { NestsStatements self.now.levels (G.pre self.now.inner) (G.post self.now.inner) }
-        ensures { Reads (spec.inputs self.now.turns (expr_at self.now.levels) (statements_at self.now.levels) tokens.old) result tokens.new }
+        requires { InnerStatements self.now.bounds (G.pre self.now.inner) (G.post self.now.inner) }
+        ensures { Reads (within spec.inputs self.now.bounds tokens.old) result tokens.new }
     {
         let first = self.input(tokens)?;
         let more = many(
             self.alloc,
-            self.turns,
+            self.bounds.turns,
             tokens,
             |tokens| tokens.sees(Fixed::Comma),
             |tokens| self.next_input(tokens),
@@ -115,8 +114,8 @@ impl<G: Fn(Global, &mut Cursor<'_>, usize) -> Result<Items<Statement>, Refusal>>
     }
 
     fn some_inputs(&self, tokens: &mut Cursor<'_>) -> Result<Option<Inputs>, Refusal>
-        requires { NestsStatements self.now.levels (G.pre self.now.inner) (G.post self.now.inner) }
-        ensures { Reads (spec.some_inputs self.now.turns (expr_at self.now.levels) (statements_at self.now.levels) tokens.old) result tokens.new }
+        requires { InnerStatements self.now.bounds (G.pre self.now.inner) (G.post self.now.inner) }
+        ensures { Reads (within spec.some_inputs self.now.bounds tokens.old) result tokens.new }
     {
         if !tokens.sees_name() {
             return Ok(None);
@@ -124,10 +123,10 @@ impl<G: Fn(Global, &mut Cursor<'_>, usize) -> Result<Items<Statement>, Refusal>>
         Ok(Some(self.inputs(tokens)?))
     }
 
-    #[tactic(auto, unfolding(crate::specs::ReadStatements::call_part))]
+    #[tactic(auto, unfolding(crate::specs::Inner::ReadStatements::call_part))]
     fn call_part(&self, tokens: &mut Cursor<'_>) -> Result<Option<Inputs>, Refusal>
-        requires { NestsStatements self.now.levels (G.pre self.now.inner) (G.post self.now.inner) }
-        ensures { Reads (spec.call_part self.now.turns (expr_at self.now.levels) (statements_at self.now.levels) tokens.old) result tokens.new }
+        requires { InnerStatements self.now.bounds (G.pre self.now.inner) (G.post self.now.inner) }
+        ensures { Reads (within spec.call_part self.now.bounds tokens.old) result tokens.new }
     {
         tokens.expect(Fixed::OpenParen)?;
         let inputs = self.some_inputs(tokens)?;
@@ -136,10 +135,10 @@ impl<G: Fn(Global, &mut Cursor<'_>, usize) -> Result<Items<Statement>, Refusal>>
         Ok(inputs)
     }
 
-    #[tactic(auto, unfolding(crate::specs::ReadStatements::index_part))]
+    #[tactic(auto, unfolding(crate::specs::Inner::ReadStatements::index_part))]
     fn index_part(&self, tokens: &mut Cursor<'_>) -> Result<Expr, Refusal>
-        requires { NestsStatements self.now.levels (G.pre self.now.inner) (G.post self.now.inner) }
-        ensures { Reads (spec.index_part self.now.turns (expr_at self.now.levels) (statements_at self.now.levels) tokens.old) result tokens.new }
+        requires { InnerStatements self.now.bounds (G.pre self.now.inner) (G.post self.now.inner) }
+        ensures { Reads (within spec.index_part self.now.bounds tokens.old) result tokens.new }
     {
         tokens.expect(Fixed::OpenBracket)?;
         let index = self.expr(tokens)?;
@@ -148,8 +147,8 @@ impl<G: Fn(Global, &mut Cursor<'_>, usize) -> Result<Items<Statement>, Refusal>>
     }
 
     fn some_index(&self, tokens: &mut Cursor<'_>) -> Result<Option<Expr>, Refusal>
-        requires { NestsStatements self.now.levels (G.pre self.now.inner) (G.post self.now.inner) }
-        ensures { Reads (spec.some_index self.now.turns (expr_at self.now.levels) (statements_at self.now.levels) tokens.old) result tokens.new }
+        requires { InnerStatements self.now.bounds (G.pre self.now.inner) (G.post self.now.inner) }
+        ensures { Reads (within spec.some_index self.now.bounds tokens.old) result tokens.new }
     {
         if !tokens.sees(Fixed::OpenBracket) {
             return Ok(None);
@@ -157,10 +156,10 @@ impl<G: Fn(Global, &mut Cursor<'_>, usize) -> Result<Items<Statement>, Refusal>>
         Ok(Some(self.index_part(tokens)?))
     }
 
-    #[tactic(auto, unfolding(crate::specs::ReadStatements::assigned))]
+    #[tactic(auto, unfolding(crate::specs::Inner::ReadStatements::assigned))]
     fn assigned(&self, tokens: &mut Cursor<'_>) -> Result<(Option<Expr>, Expr), Refusal>
-        requires { NestsStatements self.now.levels (G.pre self.now.inner) (G.post self.now.inner) }
-        ensures { Reads (spec.assigned self.now.turns (expr_at self.now.levels) (statements_at self.now.levels) tokens.old) result tokens.new }
+        requires { InnerStatements self.now.bounds (G.pre self.now.inner) (G.post self.now.inner) }
+        ensures { Reads (within spec.assigned self.now.bounds tokens.old) result tokens.new }
     {
         let index = self.some_index(tokens)?;
         tokens.expect(Fixed::Assign)?;
@@ -169,10 +168,10 @@ impl<G: Fn(Global, &mut Cursor<'_>, usize) -> Result<Items<Statement>, Refusal>>
         Ok((index, value))
     }
 
-    #[tactic(auto, unfolding(crate::specs::ReadStatements::named_statement))]
+    #[tactic(auto, unfolding(crate::specs::Inner::ReadStatements::named_statement))]
     fn named_statement(&self, tokens: &mut Cursor<'_>) -> Result<Statement, Refusal>
-        requires { NestsStatements self.now.levels (G.pre self.now.inner) (G.post self.now.inner) }
-        ensures { Reads (spec.named_statement self.now.turns (expr_at self.now.levels) (statements_at self.now.levels) tokens.old) result tokens.new }
+        requires { InnerStatements self.now.bounds (G.pre self.now.inner) (G.post self.now.inner) }
+        ensures { Reads (within spec.named_statement self.now.bounds tokens.old) result tokens.new }
     {
         let name = tokens.name()?;
         if tokens.sees(Fixed::OpenParen) {
@@ -190,15 +189,15 @@ impl<G: Fn(Global, &mut Cursor<'_>, usize) -> Result<Items<Statement>, Refusal>>
         }))
     }
 
-    #[tactic(auto, unfolding(crate::specs::ReadStatements::element))]
+    #[tactic(auto, unfolding(crate::specs::Inner::ReadStatements::element))]
     fn element(&self, tokens: &mut Cursor<'_>) -> Result<Element, Refusal>
-        requires { NestsStatements self.now.levels (G.pre self.now.inner) (G.post self.now.inner) }
-        ensures { Reads (spec.element self.now.turns (expr_at self.now.levels) (statements_at self.now.levels) tokens.old) result tokens.new }
+        requires { InnerStatements self.now.bounds (G.pre self.now.inner) (G.post self.now.inner) }
+        ensures { Reads (within spec.element self.now.bounds tokens.old) result tokens.new }
     {
         let first = label(tokens)?;
         let more = many(
             self.alloc,
-            self.turns,
+            self.bounds.turns,
             tokens,
             |tokens| tokens.sees(Fixed::Comma),
             |tokens| next_label(tokens),
@@ -208,10 +207,10 @@ impl<G: Fn(Global, &mut Cursor<'_>, usize) -> Result<Items<Statement>, Refusal>>
         Ok(Element { first, more, body })
     }
 
-    #[tactic(auto, unfolding(crate::specs::ReadStatements::branch))]
+    #[tactic(auto, unfolding(crate::specs::Inner::ReadStatements::branch))]
     fn branch(&self, tokens: &mut Cursor<'_>) -> Result<Branch, Refusal>
-        requires { NestsStatements self.now.levels (G.pre self.now.inner) (G.post self.now.inner) }
-        ensures { Reads (spec.branch self.now.turns (expr_at self.now.levels) (statements_at self.now.levels) tokens.old) result tokens.new }
+        requires { InnerStatements self.now.bounds (G.pre self.now.inner) (G.post self.now.inner) }
+        ensures { Reads (within spec.branch self.now.bounds tokens.old) result tokens.new }
     {
         let condition = self.expr(tokens)?;
         tokens.expect(Fixed::Then)?;
@@ -219,19 +218,19 @@ impl<G: Fn(Global, &mut Cursor<'_>, usize) -> Result<Items<Statement>, Refusal>>
         Ok(Branch { condition, body })
     }
 
-    #[tactic(auto, unfolding(crate::specs::ReadStatements::next_branch))]
+    #[tactic(auto, unfolding(crate::specs::Inner::ReadStatements::next_branch))]
     fn next_branch(&self, tokens: &mut Cursor<'_>) -> Result<Branch, Refusal>
-        requires { NestsStatements self.now.levels (G.pre self.now.inner) (G.post self.now.inner) }
-        ensures { Reads (spec.next_branch self.now.turns (expr_at self.now.levels) (statements_at self.now.levels) tokens.old) result tokens.new }
+        requires { InnerStatements self.now.bounds (G.pre self.now.inner) (G.post self.now.inner) }
+        ensures { Reads (within spec.next_branch self.now.bounds tokens.old) result tokens.new }
     {
         tokens.expect(Fixed::Elsif)?;
         self.branch(tokens)
     }
 
-    #[tactic(auto, unfolding(crate::specs::ReadStatements::otherwise))]
+    #[tactic(auto, unfolding(crate::specs::Inner::ReadStatements::otherwise))]
     fn otherwise(&self, tokens: &mut Cursor<'_>) -> Result<Option<Items<Statement>>, Refusal>
-        requires { NestsStatements self.now.levels (G.pre self.now.inner) (G.post self.now.inner) }
-        ensures { Reads (spec.otherwise self.now.turns (expr_at self.now.levels) (statements_at self.now.levels) tokens.old) result tokens.new }
+        requires { InnerStatements self.now.bounds (G.pre self.now.inner) (G.post self.now.inner) }
+        ensures { Reads (within spec.otherwise self.now.bounds tokens.old) result tokens.new }
     {
         if !tokens.sees(Fixed::Else) {
             return Ok(None);
@@ -240,16 +239,16 @@ impl<G: Fn(Global, &mut Cursor<'_>, usize) -> Result<Items<Statement>, Refusal>>
         Ok(Some(self.inner(tokens)?))
     }
 
-    #[tactic(auto, unfolding(crate::specs::ReadStatements::conditional))]
+    #[tactic(auto, unfolding(crate::specs::Inner::ReadStatements::conditional))]
     fn conditional(&self, tokens: &mut Cursor<'_>) -> Result<Statement, Refusal>
-        requires { NestsStatements self.now.levels (G.pre self.now.inner) (G.post self.now.inner) }
-        ensures { Reads (spec.conditional self.now.turns (expr_at self.now.levels) (statements_at self.now.levels) tokens.old) result tokens.new }
+        requires { InnerStatements self.now.bounds (G.pre self.now.inner) (G.post self.now.inner) }
+        ensures { Reads (within spec.conditional self.now.bounds tokens.old) result tokens.new }
     {
         tokens.expect(Fixed::If)?;
         let first = self.branch(tokens)?;
         let more = many(
             self.alloc,
-            self.turns,
+            self.bounds.turns,
             tokens,
             |tokens| tokens.sees(Fixed::Elsif),
             |tokens| self.next_branch(tokens),
@@ -264,10 +263,10 @@ impl<G: Fn(Global, &mut Cursor<'_>, usize) -> Result<Items<Statement>, Refusal>>
         })
     }
 
-    #[tactic(auto, unfolding(crate::specs::ReadStatements::choice))]
+    #[tactic(auto, unfolding(crate::specs::Inner::ReadStatements::choice))]
     fn choice(&self, tokens: &mut Cursor<'_>) -> Result<Statement, Refusal>
-        requires { NestsStatements self.now.levels (G.pre self.now.inner) (G.post self.now.inner) }
-        ensures { Reads (spec.choice self.now.turns (expr_at self.now.levels) (statements_at self.now.levels) tokens.old) result tokens.new }
+        requires { InnerStatements self.now.bounds (G.pre self.now.inner) (G.post self.now.inner) }
+        ensures { Reads (within spec.choice self.now.bounds tokens.old) result tokens.new }
     {
         tokens.expect(Fixed::Case)?;
         let selector = self.expr(tokens)?;
@@ -275,7 +274,7 @@ impl<G: Fn(Global, &mut Cursor<'_>, usize) -> Result<Items<Statement>, Refusal>>
         let first = self.element(tokens)?;
         let more = many(
             self.alloc,
-            self.turns,
+            self.bounds.turns,
             tokens,
             |tokens| tokens.sees_label(),
             |tokens| self.element(tokens),
@@ -291,10 +290,10 @@ impl<G: Fn(Global, &mut Cursor<'_>, usize) -> Result<Items<Statement>, Refusal>>
         })
     }
 
-    #[tactic(auto, unfolding(crate::specs::ReadStatements::counted))]
+    #[tactic(auto, unfolding(crate::specs::Inner::ReadStatements::counted))]
     fn counted(&self, tokens: &mut Cursor<'_>) -> Result<Statement, Refusal>
-        requires { NestsStatements self.now.levels (G.pre self.now.inner) (G.post self.now.inner) }
-        ensures { Reads (spec.counted self.now.turns (expr_at self.now.levels) (statements_at self.now.levels) tokens.old) result tokens.new }
+        requires { InnerStatements self.now.bounds (G.pre self.now.inner) (G.post self.now.inner) }
+        ensures { Reads (within spec.counted self.now.bounds tokens.old) result tokens.new }
     {
         tokens.expect(Fixed::For)?;
         let tag = tokens.name()?;
@@ -316,30 +315,30 @@ impl<G: Fn(Global, &mut Cursor<'_>, usize) -> Result<Items<Statement>, Refusal>>
         })
     }
 
-    #[tactic(auto, unfolding(crate::specs::ReadStatements::exit_of))]
+    #[tactic(auto, unfolding(crate::specs::Inner::ReadStatements::exit_of))]
     fn exit(&self, tokens: &mut Cursor<'_>) -> Result<Statement, Refusal>
-        requires { NestsStatements self.now.levels (G.pre self.now.inner) (G.post self.now.inner) }
-        ensures { Reads (spec.exit_of self.now.turns (expr_at self.now.levels) (statements_at self.now.levels) tokens.old) result tokens.new }
+        requires { InnerStatements self.now.bounds (G.pre self.now.inner) (G.post self.now.inner) }
+        ensures { Reads (within spec.exit_of self.now.bounds tokens.old) result tokens.new }
     {
         let place = tokens.place_of(Fixed::Exit)?;
         tokens.expect(Fixed::Semicolon)?;
         Ok(Statement::Exit(place))
     }
 
-    #[tactic(auto, unfolding(crate::specs::ReadStatements::return_of))]
+    #[tactic(auto, unfolding(crate::specs::Inner::ReadStatements::return_of))]
     fn return_statement(&self, tokens: &mut Cursor<'_>) -> Result<Statement, Refusal>
-        requires { NestsStatements self.now.levels (G.pre self.now.inner) (G.post self.now.inner) }
-        ensures { Reads (spec.return_of self.now.turns (expr_at self.now.levels) (statements_at self.now.levels) tokens.old) result tokens.new }
+        requires { InnerStatements self.now.bounds (G.pre self.now.inner) (G.post self.now.inner) }
+        ensures { Reads (within spec.return_of self.now.bounds tokens.old) result tokens.new }
     {
         tokens.expect(Fixed::Return)?;
         tokens.expect(Fixed::Semicolon)?;
         Ok(Statement::Return)
     }
 
-    #[tactic(auto, unfolding(crate::specs::ReadStatements::statement))]
+    #[tactic(auto, unfolding(crate::specs::Inner::ReadStatements::statement))]
     fn statement(&self, tokens: &mut Cursor<'_>) -> Result<Statement, Refusal>
-        requires { NestsStatements self.now.levels (G.pre self.now.inner) (G.post self.now.inner) }
-        ensures { Reads (spec.statement self.now.turns (expr_at self.now.levels) (statements_at self.now.levels) tokens.old) result tokens.new }
+        requires { InnerStatements self.now.bounds (G.pre self.now.inner) (G.post self.now.inner) }
+        ensures { Reads (within spec.statement self.now.bounds tokens.old) result tokens.new }
     {
         if tokens.sees(Fixed::Semicolon) {
             tokens.expect(Fixed::Semicolon)?;
@@ -361,12 +360,12 @@ impl<G: Fn(Global, &mut Cursor<'_>, usize) -> Result<Items<Statement>, Refusal>>
     }
 
     pub fn several(&self, tokens: &mut Cursor<'_>) -> Result<Items<Statement>, Refusal>
-        requires { NestsStatements self.now.levels (G.pre self.now.inner) (G.post self.now.inner) }
-        ensures { Reads (spec.several self.now.turns (expr_at self.now.levels) (statements_at self.now.levels) tokens.old) result tokens.new }
+        requires { InnerStatements self.now.bounds (G.pre self.now.inner) (G.post self.now.inner) }
+        ensures { Reads (within spec.several self.now.bounds tokens.old) result tokens.new }
     {
         many(
             self.alloc,
-            self.turns,
+            self.bounds.turns,
             tokens,
             |tokens| tokens.sees_statement(),
             |tokens| self.statement(tokens),
@@ -374,7 +373,8 @@ impl<G: Fn(Global, &mut Cursor<'_>, usize) -> Result<Items<Statement>, Refusal>>
     }
 }
 
-/// Statements one after the other, nested in fewer levels than this. There are fewer tokens than levels.
+/// Statements one after the other, nested in fewer levels than this. There are fewer tokens than
+/// levels.
 pub fn statements(
     alloc: Global,
     tokens: &mut Cursor<'_>,
@@ -387,8 +387,10 @@ pub fn statements(
     }
     StatementRules {
         alloc,
-        turns: levels,
-        levels: levels - 1,
+        bounds: Bounds {
+            turns: levels,
+            levels: levels - 1,
+        },
         inner: statements,
     }
     .several(tokens)

@@ -1,7 +1,7 @@
 //! The tokens that stand for an operator, a function, a truth value, a sign or a type.
 
 ghost use Rattle.std.specs.Prelude.{◌≡◌};
-ghost use Rattle.st_parser.specs.Tables as spec;
+ghost use Rattle.st_parser.specs.Inner.Tables as spec;
 
 use st_tree::{
     AddOperator, BlockKind, CompareOperator, EqualOperator, Fixed, Function, MultiplyOperator,

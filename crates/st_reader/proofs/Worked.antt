@@ -3,7 +3,7 @@ use Rattle.std.proofs.Common.{◌≡◌, [], ◌∷◌, map, codes, Ok, Err, ref
 use Rattle.tri_base.specs.declared.faults.LexCause.TheVariants as cause
 use Rattle.st_tree.specs.declared.token.Fixed.TheVariants as w
 use Rattle.st_tree.specs.declared.token.TokenKind.TheVariants as kind
-use Rattle.st_tree.specs.Words.{reserved_word, reserved_words, symbol_of_two, symbol_of_one}
+use Rattle.st_tree.specs.Words.{reserved_word, symbol_of}
 use Rattle.st_tree.specs.Numerals.{numeral}
 use Rattle.st_tree.specs.Lexes.{item, lexed, lexed_from, Lexes, IsLexicalFault}
 
@@ -23,14 +23,14 @@ too_large = refl
 
 -- a comment and a symbol of two bytes
 assigns : Lexes (codes "x(**):=1") (record { kind = kind.Name (codes "X"); place = 0 } ∷ record { kind = kind.Fixed w.Assign; place = 5 } ∷ record { kind = kind.Number 1; place = 7 } ∷ [])
-unfolding lexed lexed_from item reserved_word reserved_words symbol_of_two symbol_of_one numeral
+unfolding lexed lexed_from item reserved_word symbol_of numeral
 assigns = refl
 
 -- an open comment, and a byte that begins nothing
 open_comment : IsLexicalFault (codes "A (*)") 2 cause.OpenComment
-unfolding lexed lexed_from item reserved_word reserved_words symbol_of_two symbol_of_one numeral
+unfolding lexed lexed_from item reserved_word symbol_of numeral
 open_comment = refl
 
 bad_byte : IsLexicalFault (codes "X:=$;") 3 cause.BadByte
-unfolding lexed lexed_from item reserved_word reserved_words symbol_of_two symbol_of_one numeral
+unfolding lexed lexed_from item reserved_word symbol_of numeral
 bad_byte = refl

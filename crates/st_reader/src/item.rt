@@ -2,17 +2,19 @@ ghost use Rattle.std.specs.Prelude.{◌≡◌, ◌≤◌, ◌<◌, ◌+◌, ◌^
 ghost use Rattle.std.specs.List.{prefix_len, list_all};
 ghost use Rattle.tri_base.specs.Names.{is_word_byte as is_word, starts_with_digit};
 ghost use Rattle.st_tree.specs.Lexes as spec;
-ghost use Rattle.st_tree.specs.Words.{symbol_of_two as two, symbol_of_one as one};
-ghost use Rattle.st_tree.specs.Numerals.{numeral as numeral_of};
+ghost use Rattle.st_tree.specs.Words.{symbol_of as symbol_at};
 
-use crate::bytes::byte_at;
 use crate::numeral::numeral;
-use crate::words::{reserved_word, symbol_of_one, symbol_of_two};
+use crate::words::{reserved_word, symbol_of};
 use st_tree::TokenKind;
 use tri_base::{LexCause, Name};
 
-/// What begins a text: a token or, where it is None, white space or a comment; and how many bytes it has.
+/// What begins a text: a token or, where it is None, white space or a comment; and how many
+/// bytes it has.
 pub type Item = Result<(Option<TokenKind>, usize), LexCause>;
+
+/// How many bytes a name has at most.
+const NAME_LIMIT: usize = 32;
 
 fn is_white(byte: u8) -> bool
     ensures { result ≡ spec.is_white byte }
@@ -63,8 +65,8 @@ fn comment_end(text: &[u8]) -> Option<usize>
     ensures value { result ≡ spec.comment_end text.now }
     ensures within { IfSome result (λ n. n ≤ length text.now) }
 {
-    for (at, byte) in text.iter().enumerate() {
-        if *byte == b'*' && byte_at(text, at + 1) == b')' {
+    for at in 0..text.len() {
+        if text[at..].starts_with(b"*)") {
             return Some(at + 2);
         }
     }
@@ -91,7 +93,7 @@ fn word(text: &[u8]) -> Item
     ensures value { result ≡ spec.word_item text.now }
     ensures within { IfOk result (λ x. x.1 ≡ length text.now) }
 {
-    if text.len() > 32 {
+    if text.len() > NAME_LIMIT {
         return Err(LexCause::NameTooLong);
     }
     match Name::read(text) {
@@ -105,7 +107,7 @@ fn word(text: &[u8]) -> Item
 
 /// A number, of whose bytes this is all.
 fn number(text: &[u8]) -> Item
-    ensures value { result ≡ spec.number_item (length text.now) (numeral_of text.now) }
+    ensures value { result ≡ spec.number_item text.now }
     ensures within { IfOk result (λ x. x.1 ≡ length text.now) }
 {
     match numeral(text) {
@@ -114,17 +116,14 @@ fn number(text: &[u8]) -> Item
     }
 }
 
-/// A symbol, by the first two bytes.
-fn symbol(first: u8, second: u8) -> Item
-    ensures value { result ≡ spec.symbol_item (two first second) (one first) }
-    ensures within { IfOk result (λ x. (1 ≤ x.1) × (x.1 ≤ 2) × (second ≡ 0 → x.1 ≡ 1)) }
+/// The symbol at the front of a text.
+fn symbol(text: &[u8]) -> Item
+    ensures value { result ≡ spec.symbol_item (symbol_at text.now) }
+    ensures within { IfOk result (λ x. (1 ≤ x.1) × (x.1 ≤ length text.now)) }
 {
-    match symbol_of_two(first, second) {
-        Some(word) => Ok((Some(TokenKind::Fixed(word)), 2)),
-        None => match symbol_of_one(first) {
-            Some(word) => Ok((Some(TokenKind::Fixed(word)), 1)),
-            None => Err(LexCause::BadByte),
-        },
+    match symbol_of(text) {
+        Some((word, length)) => Ok((Some(TokenKind::Fixed(word)), length)),
+        None => Err(LexCause::BadByte),
     }
 }
 
@@ -138,13 +137,13 @@ pub fn item(text: &[u8]) -> Item
     let first = text[0];
     if is_white(first) {
         Ok((None, 1))
-    } else if first == b'(' && byte_at(text, 1) == b'*' {
+    } else if text.starts_with(b"(*") {
         comment(&text[2..])
     } else if first.is_ascii_digit() {
         number(&text[..number_length(text)])
     } else if is_word_byte(first) {
         word(&text[..word_length(text)])
     } else {
-        symbol(first, byte_at(text, 1))
+        symbol(text)
     }
 }

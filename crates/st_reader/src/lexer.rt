@@ -1,4 +1,4 @@
-ghost use Rattle.st_reader.specs.Answers.{IsLexed};
+ghost use Rattle.st_reader.specs.Reading.{IsLexed};
 
 use crate::fault::ReadFault;
 use crate::item::item;

@@ -1,7 +1,6 @@
 //! Reads a Structured Text program: bytes to tokens, and tokens to the tree that spells them.
 #![tactic(auto)]
 
-mod bytes;
 mod fault;
 mod item;
 mod lexer;
@@ -12,6 +11,7 @@ mod words;
 pub use fault::ReadFault;
 pub use lexer::lex;
 pub use reader::read_program;
+pub use st_parser::{nests_as_its_tokens, one_tree};
 
 #[cfg(test)]
 mod tests;

@@ -1,20 +1,23 @@
 ghost use Rattle.std.specs.Prelude.{◌≡◌, ◌≤◌, ◌+◌, min, length, drop, fold, false};
+ghost use Rattle.std.specs.Char.{digit_value};
 ghost use Rattle.st_tree.specs.Numerals as spec;
+ghost use Rattle.st_tree.specs.Numerals.{greatest_number};
 
-use crate::bytes::byte_at;
 use tri_base::LexCause;
 
-const GREATEST: u32 = 2147483648;
+/// The greatest number.
+const GREATEST: u32 = 2_147_483_648;
 
+/// The value of a digit in either case, up to 35; 36 where the byte is none.
 fn digit(byte: u8) -> u8
-    ensures value { result ≡ spec.digit byte }
-    ensures small { result ≤ 16 }
+    ensures value { result ≡ digit_value byte }
+    ensures small { result ≤ 36 }
 {
     match byte {
         b'0'..=b'9' => byte - b'0',
-        b'A'..=b'F' => byte - 55,
-        b'a'..=b'f' => byte - 87,
-        _ => 16,
+        b'A'..=b'Z' => byte - b'A' + 10,
+        b'a'..=b'z' => byte - b'a' + 10,
+        _ => 36,
     }
 }
 
@@ -22,12 +25,11 @@ fn base(text: &[u8]) -> u8
     ensures value { result ≡ spec.base text.now }
     ensures some { 1 ≤ result }
 {
-    let (first, second) = (byte_at(text, 0), byte_at(text, 1));
-    if first == b'1' && second == b'6' && byte_at(text, 2) == b'#' {
+    if text.starts_with(b"16#") {
         16
-    } else if first == b'2' && second == b'#' {
+    } else if text.starts_with(b"2#") {
         2
-    } else if first == b'8' && second == b'#' {
+    } else if text.starts_with(b"8#") {
         8
     } else {
         10
@@ -37,15 +39,12 @@ fn base(text: &[u8]) -> u8
 fn digits(text: &[u8]) -> &[u8]
     ensures { result.now ≡ spec.digits text.now }
 {
-    let prefix = match base(text) {
-        16 => 3,
-        10 => 0,
-        _ => 2,
-    };
-    if prefix <= text.len() {
-        &text[prefix..]
+    if text.starts_with(b"16#") {
+        &text[3..]
+    } else if text.starts_with(b"2#") || text.starts_with(b"8#") {
+        &text[2..]
     } else {
-        &[]
+        text
     }
 }
 
@@ -72,9 +71,9 @@ fn are_digits(base: u8, mut text: &[u8]) -> bool
 
 /// The number with one digit more, or one more than the greatest where it is above that.
 fn with_digit(base: u8, number: u32, byte: u8) -> u32
-    requires { number ≤ 2147483649 }
-    ensures value { result ≡ min (spec.with_digit base number byte) 2147483649 }
-    ensures small { result ≤ 2147483649 }
+    requires { number ≤ greatest_number + 1 }
+    ensures value { result ≡ min (spec.with_digit base number byte) (greatest_number + 1) }
+    ensures small { result ≤ greatest_number + 1 }
 {
     if byte == b'_' {
         return number;
@@ -85,7 +84,7 @@ fn with_digit(base: u8, number: u32, byte: u8) -> u32
 
 fn value(base: u8, text: &[u8]) -> u32
     requires { 1 ≤ base }
-    ensures value { result ≡ min (spec.value base text.now) 2147483649 }
+    ensures value { result ≡ min (spec.value base text.now) (greatest_number + 1) }
 {
     let mut number = 0;
     for byte in text {
@@ -94,8 +93,8 @@ fn value(base: u8, text: &[u8]) -> u32
     number
 }
 
-#[tactic(auto, unfolding(st_tree::specs::Numerals::numeral))]
 /// The number that a text spells, from its first digit to its end.
+#[tactic(auto, unfolding(st_tree::specs::Numerals::numeral))]
 pub fn numeral(text: &[u8]) -> Result<u32, LexCause>
     ensures { result ≡ spec.numeral text.now }
 {

@@ -59,7 +59,8 @@ fn number(alloc: Global, bytes: &[u8]) -> Option<u32> {
     }
 }
 
-/// Whether a text's tokens are these: a name (n), a number (1) or a reserved word or symbol (w), and its place.
+/// Whether a text's tokens are these: a name (n), a number (1) or a reserved word or symbol (w),
+/// and its place.
 fn has_tokens(alloc: Global, bytes: &[u8], wanted: &[(u8, usize)]) -> bool {
     let mut text = Text::new(alloc);
     if push_bytes(&mut text, bytes).is_err() {
@@ -219,13 +220,24 @@ fn syntax_faults_are_at_the_first_impossible_token(rt: HostRuntime) -> Result<()
 
 #[test]
 fn programs_of_every_production_are_read(rt: HostRuntime) -> Result<(), Fail> {
-    let rows: [&[u8]; 6] = [
+    let rows: [&[u8]; 11] = [
         b"PROGRAM P END_PROGRAM",
         b"program p var end_var var_external a, b : int; c : BOOL; end_var ; end_program",
-        b"PROGRAM P VAR A : ARRAY [-1..+3] OF DINT := -2; B, C : BOOL := TRUE; T : TON; END_VAR A[4] := 9; X := A[0] + A[3]; END_PROGRAM",
-        b"PROGRAM P T(); T(IN := B, PT := 5); IF A THEN ELSIF B & C THEN ; ELSE RETURN; END_IF; END_PROGRAM",
-        b"PROGRAM P CASE X OF 1, 2..4, -5: Y := 1; +6: ELSE EXIT; END_CASE; FOR I := 1 TO -3 BY -1 DO ; END_FOR; END_PROGRAM",
-        b"PROGRAM P X := -(-1) * 2 MOD T.Q - LIMIT(0, X, 9) / 3 <= 4 = NOT B XOR TRUE AND F OR 1 <> 2; END_PROGRAM",
+        b"PROGRAM P VAR A : ARRAY [-1..+3] OF DINT := -2; B, C : BOOL := TRUE; T : TON; END_VAR
+        A[4] := 9; X := A[0] + A[3]; END_PROGRAM",
+        b"PROGRAM P T(); T(IN := B, PT := 5); IF A THEN ELSIF B & C THEN ; ELSE RETURN; END_IF;
+        END_PROGRAM",
+        b"PROGRAM P CASE X OF 1, 2..4, -5: Y := 1; +6: ELSE EXIT; END_CASE;
+        FOR I := 1 TO -3 BY -1 DO ; END_FOR; END_PROGRAM",
+        b"PROGRAM P X := -(-1) * 2 MOD T.Q - LIMIT(0, X, 9) / 3 <= 4 = NOT B XOR TRUE AND F
+        OR 1 <> 2; END_PROGRAM",
+        b"PROGRAM P VAR A : ARRAY [0..9] OF BOOL := FALSE; B : ARRAY [1..2] OF INT; END_VAR
+        END_PROGRAM",
+        b"PROGRAM P VAR A : R_TRIG; B : F_TRIG; C : SR; D : RS; E : CTU; F : CTD; G : TOF; H : TP;
+        END_VAR END_PROGRAM",
+        b"PROGRAM P X := ABS(MIN(A, MAX(B, C))) < SEL(FALSE, D, E) > F; END_PROGRAM",
+        b"PROGRAM P X := INT_TO_DINT(A) >= DINT_TO_INT(B); END_PROGRAM",
+        b"PROGRAM P FOR I := 1 TO 3 DO EXIT; END_FOR; END_PROGRAM",
     ];
     for row in rows.iter() {
         assert_eq!(rt; read(rt.alloc(), row), Answer::Read);

@@ -1,10 +1,12 @@
-ghost use Rattle.std.specs.Prelude.{◌≡◌, map};
+ghost use Rattle.std.specs.Prelude.{◌≡◌, ◌≤◌, length, true, IfSome};
+ghost use Rattle.std.specs.List.{list_all};
 ghost use Rattle.st_tree.specs.Words as spec;
+ghost use Rattle.st_reader.specs.Inner.Entries.{entries, is_written};
 
 use st_tree::Fixed;
 
 /// The reserved words, in capitals.
-pub const RESERVED: [(&[u8], Fixed); 47] = [
+const RESERVED: [(&[u8], Fixed); 47] = [
     (b"PROGRAM", Fixed::Program),
     (b"END_PROGRAM", Fixed::EndProgram),
     (b"VAR", Fixed::Var),
@@ -54,8 +56,34 @@ pub const RESERVED: [(&[u8], Fixed); 47] = [
     (b"DINT_TO_INT", Fixed::DintToInt),
 ];
 
+/// The symbols, the longer ones first.
+const SYMBOLS: [(&[u8], Fixed); 21] = [
+    (b":=", Fixed::Assign),
+    (b"<>", Fixed::Unequal),
+    (b"<=", Fixed::AtMost),
+    (b">=", Fixed::AtLeast),
+    (b"..", Fixed::Range),
+    (b"(", Fixed::OpenParen),
+    (b")", Fixed::CloseParen),
+    (b"[", Fixed::OpenBracket),
+    (b"]", Fixed::CloseBracket),
+    (b":", Fixed::Colon),
+    (b";", Fixed::Semicolon),
+    (b",", Fixed::Comma),
+    (b".", Fixed::Dot),
+    (b"+", Fixed::Plus),
+    (b"-", Fixed::Minus),
+    (b"*", Fixed::Times),
+    (b"/", Fixed::Divide),
+    (b"=", Fixed::Equals),
+    (b"<", Fixed::Less),
+    (b">", Fixed::Greater),
+    (b"&", Fixed::And),
+];
+
+/// The token that a table has for a word.
 fn word_among(mut table: &[(&[u8], Fixed)], text: &[u8]) -> Option<Fixed>
-    ensures { result ≡ spec.word_among (map (λ k. (k.0.now, k.1)) table.entry.now) text.now }
+    ensures { result ≡ spec.word_among (entries table.entry.now) text.now }
 {
     while let [entry, rest @ ..] = table {
         if entry.0 == text {
@@ -67,51 +95,33 @@ fn word_among(mut table: &[(&[u8], Fixed)], text: &[u8]) -> Option<Fixed>
 }
 
 /// The reserved word that is written so, in capitals.
-#[tactic(auto, unfolding(st_tree::specs::Words::reserved_word, st_tree::specs::Words::reserved_words))]
+#[tactic(auto, unfolding(st_tree::specs::Words::reserved_word))]
 pub fn reserved_word(text: &[u8]) -> Option<Fixed>
     ensures { result ≡ spec.reserved_word text.now }
 {
     word_among(&RESERVED, text)
 }
 
-/// The symbol of two bytes.
-#[tactic(auto, unfolding(st_tree::specs::Words::symbol_of_two))]
-pub fn symbol_of_two(first: u8, second: u8) -> Option<Fixed>
-    ensures value { result ≡ spec.symbol_of_two first second }
-    ensures two { second ≡ 0 → result ≡ None }
+/// The first symbol of a table with which a text begins, and how many bytes it has.
+fn symbol_among(mut table: &[(&[u8], Fixed)], text: &[u8]) -> Option<(Fixed, usize)>
+    requires { list_all is_written (entries table.now) ≡ true }
+    ensures value { result ≡ spec.symbol_among (entries table.entry.now) text.now }
+    ensures within { IfSome result (λ x. (1 ≤ x.1) × (x.1 ≤ length text.now)) }
 {
-    match (first, second) {
-        (b':', b'=') => Some(Fixed::Assign),
-        (b'<', b'>') => Some(Fixed::Unequal),
-        (b'<', b'=') => Some(Fixed::AtMost),
-        (b'>', b'=') => Some(Fixed::AtLeast),
-        (b'.', b'.') => Some(Fixed::Range),
-        _ => None,
+    while let [entry, rest @ ..] = table {
+        if text.starts_with(entry.0) {
+            return Some((entry.1, entry.0.len()));
+        }
+        table = rest;
     }
+    None
 }
 
-/// The symbol of one byte.
-#[tactic(auto, unfolding(st_tree::specs::Words::symbol_of_one))]
-pub fn symbol_of_one(byte: u8) -> Option<Fixed>
-    ensures { result ≡ spec.symbol_of_one byte }
+/// The symbol with which a text begins, and how many bytes it has.
+#[tactic(auto, unfolding(st_tree::specs::Words::symbol_of))]
+pub fn symbol_of(text: &[u8]) -> Option<(Fixed, usize)>
+    ensures value { result ≡ spec.symbol_of text.now }
+    ensures within { IfSome result (λ x. (1 ≤ x.1) × (x.1 ≤ length text.now)) }
 {
-    match byte {
-        b'(' => Some(Fixed::OpenParen),
-        b')' => Some(Fixed::CloseParen),
-        b'[' => Some(Fixed::OpenBracket),
-        b']' => Some(Fixed::CloseBracket),
-        b':' => Some(Fixed::Colon),
-        b';' => Some(Fixed::Semicolon),
-        b',' => Some(Fixed::Comma),
-        b'.' => Some(Fixed::Dot),
-        b'+' => Some(Fixed::Plus),
-        b'-' => Some(Fixed::Minus),
-        b'*' => Some(Fixed::Times),
-        b'/' => Some(Fixed::Divide),
-        b'=' => Some(Fixed::Equals),
-        b'<' => Some(Fixed::Less),
-        b'>' => Some(Fixed::Greater),
-        b'&' => Some(Fixed::And),
-        _ => None,
-    }
+    symbol_among(&SYMBOLS, text)
 }

@@ -7,6 +7,10 @@ use Rattle.st_tree.specs.declared.token.TokenKind.TheVariants as kind
 use Rattle.st_tree.specs.declared.token.Token.{Token}
 use Rattle.st_tree.specs.declared.declaration.PlacedName.{PlacedName}
 
+-- a token of this kind at this byte place
+abbrev pub token_at : TokenKind → ℕ → Token
+token_at kind place = record { kind = kind; place = place }
+
 -- a token of this kind, wherever it stands, or at this byte place
 pub data Piece : Type 0 where
   Anywhere : TokenKind → Piece
@@ -15,7 +19,7 @@ pub data Piece : Type 0 where
 -- this token is such a piece
 abbrev pub IsPiece : Piece → Token → Type 0
 IsPiece (Anywhere kind) token = token.kind ≡ kind
-IsPiece (Placed kind place) token = token ≡ record { kind = kind; place = place }
+IsPiece (Placed kind place) token = token ≡ token_at kind place
 
 -- these tokens are these pieces, one by one
 abbrev pub ArePieces : List Piece → List Token → Type 0

@@ -9,7 +9,8 @@ use Rattle.st_tree.specs.Statements.{spell_statement}
 
 -- program = PROGRAM name { block } { statement } END_PROGRAM
 abbrev pub spell_program : Tree → List Piece
-spell_program t = word w.Program · name t.name · each spell_block t.blocks · each spell_statement t.statements · word w.EndProgram
+spell_program t =
+    word w.Program · name t.name · each spell_block t.blocks · each spell_statement t.statements · word w.EndProgram
 
 -- the tree spells these tokens, all of them
 unfoldable pub Spells : Tree → List Token → Type 0

@@ -1,5 +1,4 @@
 -- How deep a tree nests, one level for each "(" and "[" and for each IF, CASE and FOR around a part.
--- Own rule: at most 64 levels.
 use Rattle.std.specs.Prelude.{ℕ, ◌+◌, max, List, map, fold, Option, None, Some}
 use Rattle.st_tree.specs.declared.expression.Operation.{Operation}
 use Rattle.st_tree.specs.declared.expression.Expr.{Expr}

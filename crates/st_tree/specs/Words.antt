@@ -1,11 +1,11 @@
 -- The reserved words and the symbols (IEC 61131-3:2013, 6.1).
-use Rattle.std.specs.Prelude.{ℕ, ◌==◌, ◌&&◌, if◌then◌else◌, List, [], ◌∷◌, Option, Some, None, codes}
+use Rattle.std.specs.Prelude.{ℕ, if◌then◌else◌, List, [], ◌∷◌, Option, Some, None, Bool, length, take, codes}
 use Rattle.std.specs.Str.{bytes_eq}
 use Rattle.st_tree.specs.declared.token.Fixed.{Fixed}
 use Rattle.st_tree.specs.declared.token.Fixed.TheVariants as w
 
 -- the reserved words in capitals, and their tokens
-unfoldable pub reserved_words : List (List ℕ × Fixed)
+abbrev pub reserved_words : List (List ℕ × Fixed)
 reserved_words =
     (codes "PROGRAM", w.Program) ∷
     (codes "END_PROGRAM", w.EndProgram) ∷
@@ -64,23 +64,41 @@ word_among (entry ∷ entries) text = if bytes_eq entry.0 text then Some entry.1
 unfoldable pub reserved_word : List ℕ → Option Fixed
 reserved_word = word_among reserved_words
 
--- the symbol of two bytes, := <> <= >= or ..
-unfoldable pub symbol_of_two : ℕ → ℕ → Option Fixed
-symbol_of_two first second =
-    if first == 58 && second == 61 then Some w.Assign
-    else (if first == 60 && second == 62 then Some w.Unequal
-    else (if first == 60 && second == 61 then Some w.AtMost
-    else (if first == 62 && second == 61 then Some w.AtLeast
-    else (if first == 46 && second == 46 then Some w.Range else None))))
+-- the symbols, and their tokens; the longer ones stand first
+abbrev pub symbols : List (List ℕ × Fixed)
+symbols =
+    (codes ":=", w.Assign) ∷
+    (codes "<>", w.Unequal) ∷
+    (codes "<=", w.AtMost) ∷
+    (codes ">=", w.AtLeast) ∷
+    (codes "..", w.Range) ∷
+    (codes "(", w.OpenParen) ∷
+    (codes ")", w.CloseParen) ∷
+    (codes "[", w.OpenBracket) ∷
+    (codes "]", w.CloseBracket) ∷
+    (codes ":", w.Colon) ∷
+    (codes ";", w.Semicolon) ∷
+    (codes ",", w.Comma) ∷
+    (codes ".", w.Dot) ∷
+    (codes "+", w.Plus) ∷
+    (codes "-", w.Minus) ∷
+    (codes "*", w.Times) ∷
+    (codes "/", w.Divide) ∷
+    (codes "=", w.Equals) ∷
+    (codes "<", w.Less) ∷
+    (codes ">", w.Greater) ∷
+    (codes "&", w.And) ∷ []
 
--- the symbol of one byte, ( ) [ ] : ; , . + - * / = < > or &, which is AND
-unfoldable pub symbol_of_one : ℕ → Option Fixed
-symbol_of_one byte =
-    if byte == 40 then Some w.OpenParen else (if byte == 41 then Some w.CloseParen
-    else (if byte == 91 then Some w.OpenBracket else (if byte == 93 then Some w.CloseBracket
-    else (if byte == 58 then Some w.Colon else (if byte == 59 then Some w.Semicolon
-    else (if byte == 44 then Some w.Comma else (if byte == 46 then Some w.Dot
-    else (if byte == 43 then Some w.Plus else (if byte == 45 then Some w.Minus
-    else (if byte == 42 then Some w.Times else (if byte == 47 then Some w.Divide
-    else (if byte == 61 then Some w.Equals else (if byte == 60 then Some w.Less
-    else (if byte == 62 then Some w.Greater else (if byte == 38 then Some w.And else None)))))))))))))))
+-- the text begins with these bytes
+abbrev pub begins_with : List ℕ → List ℕ → Bool
+begins_with text front = bytes_eq front (take (length front) text)
+
+-- the first symbol of a table with which the text begins, and how many bytes it has
+abbrev pub symbol_among : List (List ℕ × Fixed) → List ℕ → Option (Fixed × ℕ)
+symbol_among [] text = None
+symbol_among (entry ∷ entries) text =
+    if begins_with text entry.0 then Some (entry.1, length entry.0) else symbol_among entries text
+
+-- the symbol with which the text begins, the longest that there is, and how many bytes it has
+unfoldable pub symbol_of : List ℕ → Option (Fixed × ℕ)
+symbol_of = symbol_among symbols

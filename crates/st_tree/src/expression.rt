@@ -4,38 +4,55 @@ use sqlite_items::{Boxed, Items};
 /// An operator and what stands behind it.
 #[derive(Drop)]
 pub struct Operation<O, T> {
+    /// The operator.
     pub operator: O,
+    /// Its right operand.
     pub operand: T,
 }
 
+/// An operator of the rank of `=`.
 #[derive(Clone, Copy, Debug, PartialEq, Eq)]
 pub enum EqualOperator {
+    /// `=`
     Equal,
+    /// `<>`
     Unequal,
 }
 
+/// An operator of the rank of `<`.
 #[derive(Clone, Copy, Debug, PartialEq, Eq)]
 pub enum CompareOperator {
+    /// `<`
     Less,
+    /// `>`
     Greater,
+    /// `<=`
     AtMost,
+    /// `>=`
     AtLeast,
 }
 
+/// An operator of the rank of `+`.
 #[derive(Clone, Copy, Debug, PartialEq, Eq)]
 pub enum AddOperator {
+    /// `+`
     Add,
+    /// `-`
     Subtract,
 }
 
+/// An operator of the rank of `*`.
 #[derive(Clone, Copy, Debug, PartialEq, Eq)]
 pub enum MultiplyOperator {
+    /// `*`
     Multiply,
+    /// `/`
     Divide,
+    /// MOD
     Modulo,
 }
 
-/// A standard function.
+/// A standard function (IEC 61131-3:2013, 6.6.2.5).
 #[derive(Clone, Copy, Debug, PartialEq, Eq)]
 pub enum Function {
     Abs,
@@ -51,7 +68,9 @@ pub enum Function {
 #[cycle(expression)]
 #[derive(Drop)]
 pub struct Expr {
+    /// The first operand.
     pub first: Exclusive,
+    /// The others, in order.
     pub more: Items<Exclusive>,
 }
 
@@ -59,7 +78,9 @@ pub struct Expr {
 #[cycle(expression)]
 #[derive(Drop)]
 pub struct Exclusive {
+    /// The first operand.
     pub first: Conjunction,
+    /// The others, in order.
     pub more: Items<Conjunction>,
 }
 
@@ -67,7 +88,9 @@ pub struct Exclusive {
 #[cycle(expression)]
 #[derive(Drop)]
 pub struct Conjunction {
+    /// The first operand.
     pub first: Equality,
+    /// The others, in order.
     pub more: Items<Equality>,
 }
 
@@ -75,7 +98,9 @@ pub struct Conjunction {
 #[cycle(expression)]
 #[derive(Drop)]
 pub struct Equality {
+    /// The first operand.
     pub first: Comparison,
+    /// The others, in order, each behind its operator.
     pub more: Items<Operation<EqualOperator, Comparison>>,
 }
 
@@ -83,7 +108,9 @@ pub struct Equality {
 #[cycle(expression)]
 #[derive(Drop)]
 pub struct Comparison {
+    /// The first operand.
     pub first: Sum,
+    /// The others, in order, each behind its operator.
     pub more: Items<Operation<CompareOperator, Sum>>,
 }
 
@@ -91,7 +118,9 @@ pub struct Comparison {
 #[cycle(expression)]
 #[derive(Drop)]
 pub struct Sum {
+    /// The first operand.
     pub first: Product,
+    /// The others, in order, each behind its operator.
     pub more: Items<Operation<AddOperator, Product>>,
 }
 
@@ -99,19 +128,25 @@ pub struct Sum {
 #[cycle(expression)]
 #[derive(Drop)]
 pub struct Product {
+    /// The first operand.
     pub first: Unary,
+    /// The others, in order, each behind its operator.
     pub more: Items<Operation<MultiplyOperator, Unary>>,
 }
 
-/// A primary with at most one sign, and the sign's place.
+/// A primary with at most one `-` or NOT in front, and its byte place.
 #[cycle(expression)]
 #[derive(Drop)]
 pub enum Unary {
+    /// A primary alone.
     Plain(Primary),
+    /// `-`
     Minus(usize, Primary),
+    /// NOT
     Not(usize, Primary),
 }
 
+/// What operators join. Places are byte places.
 #[cycle(expression)]
 #[derive(Drop)]
 pub enum Primary {
@@ -119,6 +154,7 @@ pub enum Primary {
     Number(u32, usize),
     /// TRUE or FALSE, and its place.
     Truth(bool, usize),
+    /// A tag by its name.
     Tag(PlacedName),
     /// A block, and a field of it.
     Field(PlacedName, PlacedName),
@@ -134,6 +170,8 @@ pub enum Primary {
 #[cycle(expression)]
 #[derive(Drop)]
 pub struct Arguments {
+    /// The first argument.
     pub first: Expr,
+    /// The others, in order.
     pub more: Items<Expr>,
 }

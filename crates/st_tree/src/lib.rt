@@ -21,6 +21,7 @@ pub use expression::{
 };
 pub use function_blocks::{BlockKind, Kind as Simple};
 pub use program::Tree;
+pub use sqlite_items::{Boxed, Items};
 pub use statement::{Assignment, BlockCall, Branch, Element, Input, Inputs, Label, Statement};
 pub use tag::Tag;
 pub use tag_type::TagType;

@@ -6,6 +6,7 @@ pub enum TagType {
     Bool,
     Int,
     Dint,
+    /// An array, from the low bound to the high one.
     Array {
         element: Simple,
         low: i64,

@@ -88,16 +88,19 @@ pub enum Fixed {
 /// What a token is.
 #[derive(Clone, Copy, Debug, PartialEq, Eq)]
 pub enum TokenKind {
-    /// In capitals.
+    /// A name, in capitals.
     Name(Name),
-    /// 0 to 2,147,483,648.
+    /// A number, 0 to 2,147,483,648.
     Number(u32),
+    /// A reserved word or a symbol.
     Fixed(Fixed),
 }
 
 /// A token, and the byte place in the text at which it begins.
 #[derive(Clone, Copy, Debug, PartialEq, Eq)]
 pub struct Token {
+    /// What it is.
     pub kind: TokenKind,
+    /// The byte place of its first byte, from 0.
     pub place: usize,
 }

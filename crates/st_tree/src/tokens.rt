@@ -1,4 +1,5 @@
 ghost use Rattle.std.specs.Prelude.{◌≡◌, [], ◌∷◌, ◌++◌, OnOk, OnErr};
+ghost use Rattle.st_tree.specs.Pieces.{token_at};
 
 use crate::token::{Token, TokenKind};
 use sqlite_items::Items;
@@ -33,7 +34,7 @@ impl Tokens {
 
     /// Adds a token at the end. A refusal changes nothing.
     pub fn add(&mut self, kind: TokenKind, place: usize) -> Result<(), NoMemory>
-        ensures ok { OnOk result (self.new ≡ self.old ++ record { kind = kind; place = place } ∷ []) }
+        ensures ok { OnOk result (self.new ≡ self.old ++ token_at kind place ∷ []) }
         ensures err { OnErr result (self.new ≡ self.old) }
     {
         self.items.push(Token { kind, place }).map_err(|_| NoMemory)

@@ -3,8 +3,8 @@ ghost use Rattle.std.specs.Prelude.{◌≡◌};
 use crate::program::Tree;
 use tri_base::Point;
 
-/// A program's tree, and the points that it was checked against, in their order. No condition ties the two yet: it
-/// comes with the typing rules.
+/// A program's tree, and the points that it was checked against, in their order. No condition ties
+/// the two yet: it comes with the typing rules.
 #[derive(Drop)]
 pub struct Typed {
     tree: Tree,

@@ -1,6 +1,6 @@
 use Rattle.std.proofs.Common.{◌≡◌, Err, length, ap, arith, rules}
 use Rattle.std.proofs.lemmas.Grind.{common_steps}
-use Rattle.st_parser.specs.ReadExpressions.{expr_at}
+use Rattle.st_parser.specs.Inner.ReadExpressions.{expr_at}
 use Rattle.st_parser.proofs.Levels.{expr_level}
 use Rattle.st_parser.proofs.expressions.+expr.Goals as goal
 

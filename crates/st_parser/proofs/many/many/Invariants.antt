@@ -1,6 +1,6 @@
 use Rattle.std.proofs.Common.{◌≡◌, ◌-◌, Bool}
-use Rattle.st_parser.specs.Parsers.{Look, Parser, many, more_of}
-use Rattle.st_parser.specs.Passed.{Tells, Parses}
+use Rattle.st_parser.specs.Inner.Parsers.{Look, Parser, many, more_of}
+use Rattle.st_parser.specs.Inner.FunctionValues.{Tells, Parses}
 use Rattle.st_parser.proofs.many.many.Given as goal
 
 -- what the whole gives is what the turns that are left give

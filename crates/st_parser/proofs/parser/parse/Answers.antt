@@ -1,8 +1,8 @@
 use Rattle.std.proofs.Common.{◌≡◌, ◌+◌, Err, length, ap, sym, ◌∙◌, subst}
 use Rattle.st_tree.specs.Programs.{IsFirstImpossible}
 use Rattle.st_parser.specs.declared.refusal.Refusal.{Refusal}
-use Rattle.st_parser.specs.Parsers.{left_of}
-use Rattle.st_parser.specs.ReadPrograms.{whole}
+use Rattle.st_parser.specs.Inner.Parsers.{left_of}
+use Rattle.st_parser.specs.Inner.ReadPrograms.{whole}
 use Rattle.st_parser.proofs.ProgramLaws.{read_is_spelled, refused_is_first, one_tree}
 use Rattle.st_parser.proofs.parser.parse.Goals as goal
 

@@ -1,6 +1,6 @@
 use Rattle.std.proofs.Common.{◌≡◌, Err, length, ap, arith, rules}
 use Rattle.std.proofs.lemmas.Grind.{common_steps}
-use Rattle.st_parser.specs.ReadStatements.{statements_at}
+use Rattle.st_parser.specs.Inner.ReadStatements.{statements_at}
 use Rattle.st_parser.proofs.Levels.{statements_level}
 use Rattle.st_parser.proofs.statements.+statements.Goals as goal
 

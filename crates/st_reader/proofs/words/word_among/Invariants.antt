@@ -1,9 +1,10 @@
-use Rattle.std.proofs.Common.{◌≡◌, length, map}
+use Rattle.std.proofs.Common.{◌≡◌, length}
 use Rattle.st_tree.specs.Words.{word_among}
+use Rattle.st_reader.specs.Inner.Entries.{entries}
 use Rattle.st_reader.proofs.words.word_among.Given as goal
 
 abbrev pub invariant-loop-table : goal.invariant-loop-table
-invariant-loop-table l = word_among (map (λ k. (k.0.now, k.1)) l.table) l.text ≡ word_among (map (λ k. (k.0.now, k.1)) l.initial.table) l.text
+invariant-loop-table l = word_among (entries l.table) l.text ≡ word_among (entries l.initial.table) l.text
 
 abbrev pub decreases-loop-table : goal.decreases-loop-table
 decreases-loop-table l = length l.table

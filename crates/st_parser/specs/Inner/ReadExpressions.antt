@@ -1,4 +1,6 @@
--- Reading expressions: each part as a parser. The number is more than the tokens that are left, and `inner` reads a whole expression.
+-- Nobody has to believe what stands here: it serves private functions alone.
+-- Reading expressions: each part as a parser. The number is more than the tokens that are left, and `inner` reads a
+-- whole expression.
 use Rattle.std.specs.Prelude.{ℕ, zero, suc, List, Option, Some, None, ◌⊎◌}
 use Rattle.std.proofs.Common.{inl, inr}
 use Rattle.st_tree.specs.declared.token.Fixed.TheVariants as w
@@ -20,8 +22,9 @@ use Rattle.st_tree.specs.declared.expression.Unary.TheVariants as unary
 use Rattle.st_tree.specs.declared.expression.Primary.{Primary}
 use Rattle.st_tree.specs.declared.expression.Primary.TheVariants as primary
 use Rattle.st_tree.specs.declared.expression.Arguments.{Arguments, roll-Arguments}
-use Rattle.st_parser.specs.Parsers.{Parser, refuse, ◌⨟◌, made, either, many, after, expect, place_of, name, number, entry, entry_at, sees, sees_name, sees_number, sees_some, nothing}
-use Rattle.st_parser.specs.Tables.{equal_of, compare_of, add_of, multiply_of, function_of, truth_of}
+use Rattle.st_parser.specs.declared.bounds.Bounds.{Bounds}
+use Rattle.st_parser.specs.Inner.Parsers.{Parser, refuse, ◌⨟◌, made, either, many, after, expect, place_of, name, number, entry, entry_at, sees, sees_name, sees_number, sees_some, nothing}
+use Rattle.st_parser.specs.Inner.Tables.{equal_of, compare_of, add_of, multiply_of, function_of, truth_of}
 
 -- what may stand behind a name
 abbrev pub Suffix : Type 0
@@ -38,7 +41,9 @@ module _ (turns : ℕ) (inner : Parser Expr) where
   index = made (λ x. x.0) (inner ⨟ expect w.CloseBracket)
 
   abbrev pub suffix : Parser Suffix
-  suffix = either (sees w.Dot) (made (λ f. Some (inl f)) (after w.Dot name)) (either (sees w.OpenBracket) (made (λ i. Some (inr i)) (after w.OpenBracket index)) (nothing None))
+  suffix =
+      either (sees w.Dot) (made (λ f. Some (inl f)) (after w.Dot name))
+      (either (sees w.OpenBracket) (made (λ i. Some (inr i)) (after w.OpenBracket index)) (nothing None))
 
   -- a name with what stands behind it
   abbrev pub named_primary : Parser Primary
@@ -57,7 +62,8 @@ module _ (turns : ℕ) (inner : Parser Expr) where
   arguments = made (λ x. roll-Arguments (record { first = x.0; more = x.1 })) (inner ⨟ more_arguments)
 
   abbrev pub call : Parser Primary
-  call = made (λ x. primary.Call x.0.0 x.0.1 x.1.0) (entry_at function_of ⨟ after w.OpenParen (arguments ⨟ expect w.CloseParen))
+  call = made (λ x. primary.Call x.0.0 x.0.1 x.1.0)
+      (entry_at function_of ⨟ after w.OpenParen (arguments ⨟ expect w.CloseParen))
 
   unfoldable pub primary_of : Parser Primary
   primary_of =
@@ -139,3 +145,7 @@ module _ (turns : ℕ) (inner : Parser Expr) where
 unfoldable pub expr_at : ℕ → Parser Expr
 expr_at zero = refuse
 expr_at (suc levels) = whole_of (suc levels) (expr_at levels)
+
+-- a rule within these bounds
+abbrev pub within : {A : Type 0} → (ℕ → Parser Expr → Parser A) → Bounds → Parser A
+within rule bounds = rule bounds.turns (expr_at bounds.levels)

@@ -1,3 +1,4 @@
+-- Nobody has to believe what stands here: it serves private functions alone.
 -- Reading statements: each part as a parser. The number is more than the tokens that are left, `expr` reads a whole
 -- expression, and `statements` the statements inside another.
 use Rattle.std.specs.Prelude.{ℕ, zero, suc, Bool, true, false, ◌||◌, List, Option, Some, ◌⊎◌}
@@ -15,10 +16,11 @@ use Rattle.st_tree.specs.declared.statement.Statement.{Statement}
 use Rattle.st_tree.specs.declared.statement.Statement.TheVariants as statement_is
 use Rattle.st_tree.specs.declared.statement.Branch.{Branch, roll-Branch}
 use Rattle.st_tree.specs.declared.statement.Element.{Element, roll-Element}
-use Rattle.st_parser.specs.Parsers.{Parser, Look, refuse, ◌⨟◌, made, either, maybe, many, after, expect, place_of, name, sees, sees_name, sees_number, sees_some}
-use Rattle.st_parser.specs.Tables.{sign_of}
-use Rattle.st_parser.specs.ReadExpressions.{expr_at}
-use Rattle.st_parser.specs.ReadDeclarations.{integer}
+use Rattle.st_parser.specs.declared.bounds.Bounds.{Bounds}
+use Rattle.st_parser.specs.Inner.Parsers.{Parser, Look, refuse, ◌⨟◌, made, either, maybe, many, after, expect, place_of, name, sees, sees_name, sees_number, sees_some}
+use Rattle.st_parser.specs.Inner.Tables.{sign_of}
+use Rattle.st_parser.specs.Inner.ReadExpressions.{expr_at}
+use Rattle.st_parser.specs.Inner.ReadDeclarations.{integer}
 
 -- a label comes next
 abbrev pub sees_label : Look → Bool
@@ -93,7 +95,8 @@ module _ (turns : ℕ) (expr : Parser Expr) (statements : Parser (List Statement
   more_labels = many (sees w.Comma) next_label turns
 
   unfoldable pub element : Parser Element
-  element = made (λ x. roll-Element (record { first = x.0; more = x.1.0; body = x.1.1 })) (label ⨟ more_labels ⨟ after w.Colon statements)
+  element = made (λ x. roll-Element (record { first = x.0; more = x.1.0; body = x.1.1 }))
+      (label ⨟ more_labels ⨟ after w.Colon statements)
 
   abbrev pub more_elements : Parser (List Element)
   more_elements = many sees_label element turns
@@ -111,14 +114,17 @@ module _ (turns : ℕ) (expr : Parser Expr) (statements : Parser (List Statement
   otherwise = maybe (sees w.Else) (after w.Else statements)
 
   unfoldable pub conditional : Parser Statement
-  conditional = made (λ x. statement_is.If x.0 x.1.0 x.1.1.0) (after w.If (branch ⨟ more_branches ⨟ otherwise ⨟ after w.EndIf (expect w.Semicolon)))
+  conditional = made (λ x. statement_is.If x.0 x.1.0 x.1.1.0)
+      (after w.If (branch ⨟ more_branches ⨟ otherwise ⨟ after w.EndIf (expect w.Semicolon)))
 
   unfoldable pub choice : Parser Statement
-  choice = made (λ x. statement_is.Case x.0 x.1.0 x.1.1.0 x.1.1.1.0) (after w.Case (expr ⨟ after w.Of (element ⨟ more_elements ⨟ otherwise ⨟ after w.EndCase (expect w.Semicolon))))
+  choice = made (λ x. statement_is.Case x.0 x.1.0 x.1.1.0 x.1.1.1.0)
+      (after w.Case (expr ⨟ after w.Of (element ⨟ more_elements ⨟ otherwise ⨟ after w.EndCase (expect w.Semicolon))))
 
   unfoldable pub counted : Parser Statement
   counted = made (λ x. statement_is.For x.0 x.1.0 x.1.1.0 x.1.1.1.0 x.1.1.1.1.0)
-      (after w.For (name ⨟ after w.Assign (integer ⨟ after w.To (integer ⨟ step ⨟ after w.Do (statements ⨟ after w.EndFor (expect w.Semicolon))))))
+      (after w.For (name ⨟ after w.Assign (integer ⨟ after w.To (integer ⨟ step
+      ⨟ after w.Do (statements ⨟ after w.EndFor (expect w.Semicolon))))))
 
   unfoldable pub exit_of : Parser Statement
   exit_of = made (λ x. statement_is.Exit x.0) (place_of w.Exit ⨟ expect w.Semicolon)
@@ -142,3 +148,7 @@ module _ (turns : ℕ) (expr : Parser Expr) (statements : Parser (List Statement
 unfoldable pub statements_at : ℕ → Parser (List Statement)
 statements_at zero = refuse
 statements_at (suc levels) = several (suc levels) (expr_at levels) (statements_at levels)
+
+-- a rule within these bounds
+abbrev pub within : {A : Type 0} → (ℕ → Parser Expr → Parser (List Statement) → Parser A) → Bounds → Parser A
+within rule bounds = rule bounds.turns (expr_at bounds.levels) (statements_at bounds.levels)

@@ -1,3 +1,4 @@
+-- Nobody has to believe what stands here: it serves private functions alone.
 -- Reading programs. The number is more than the tokens that are left.
 use Rattle.std.specs.Prelude.{◌≡◌, ◌≢◌, ℕ, Bool, List, [], ◌∷◌, ◌||◌, Result, Ok, Err}
 use Rattle.st_tree.specs.declared.token.Fixed.TheVariants as w
@@ -6,9 +7,9 @@ use Rattle.st_tree.specs.declared.declaration.Block.{Block}
 use Rattle.st_tree.specs.declared.program.Tree.{Tree}
 use Rattle.st_parser.specs.declared.refusal.Refusal.{Refusal}
 use Rattle.st_parser.specs.declared.refusal.Refusal.TheVariants.{NoMemory}
-use Rattle.st_parser.specs.Parsers.{Parser, Outcome, Look, refuse, ◌⨟◌, made, many, after, expect, name, sees, left_of}
-use Rattle.st_parser.specs.ReadDeclarations.{block}
-use Rattle.st_parser.specs.ReadStatements.{statements_at}
+use Rattle.st_parser.specs.Inner.Parsers.{Parser, Outcome, Look, refuse, ◌⨟◌, made, many, after, expect, name, sees, left_of}
+use Rattle.st_parser.specs.Inner.ReadDeclarations.{block}
+use Rattle.st_parser.specs.Inner.ReadStatements.{statements_at}
 
 -- a block of declarations comes next
 abbrev pub sees_block : Look → Bool
@@ -18,7 +19,8 @@ abbrev pub blocks : ℕ → Parser (List Block)
 blocks turns = many sees_block (block turns) turns
 
 unfoldable pub program : ℕ → Parser Tree
-program turns = made (λ x. record { name = x.0; blocks = x.1.0; statements = x.1.1.0 }) (after w.Program (name ⨟ blocks turns ⨟ statements_at turns ⨟ expect w.EndProgram))
+program turns = made (λ x. record { name = x.0; blocks = x.1.0; statements = x.1.1.0 })
+    (after w.Program (name ⨟ blocks turns ⨟ statements_at turns ⨟ expect w.EndProgram))
 
 -- nothing is left
 abbrev pub finish : Parser (Unit {0})

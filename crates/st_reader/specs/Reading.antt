@@ -1,4 +1,4 @@
--- What the two calls answer.
+-- What `lex` and `read_program` answer.
 use Rattle.std.specs.Prelude.{◌≡◌, ℕ, List, Some, None, Result, Ok, Err}
 use Rattle.st_tree.specs.declared.token.Token.{Token}
 use Rattle.st_tree.specs.declared.program.Tree.{Tree}
@@ -32,3 +32,7 @@ IsTree tree (Err (TooDeep token)) = ⊥
 IsTree tree (Err (Syntax token)) = ⊥
 IsTree tree (Err (Lex place cause)) = ⊥
 IsTree tree (Err NoMemory) = Unit {0}
+
+-- what `read_program` answers for tokens that spell a tree and nest at most 64 deep: that tree, or want of memory
+abbrev pub GivesTheTree : List Token → Result Tree ReadFault → Type 0
+GivesTheTree tokens result = (tree : Tree) → Spells tree tokens → first_too_deep tokens ≡ None → IsTree tree result

@@ -1,3 +1,4 @@
+-- Nobody has to believe what stands here: it serves private functions alone.
 -- Parsers with one token of look-ahead, as functions of the tokens that are left, and how they are put together.
 use Rattle.std.specs.Prelude.{◌≡◌, ◌≢◌, ℕ, zero, suc, Bool, true, false, if◌then◌else◌, List, [], ◌∷◌, ◌++◌, length, Option, Some, None, is_some, Result, Ok, Err}
 use denote.Enum.Bare.{sameb}
@@ -109,7 +110,8 @@ maybe test p tokens = if test (ahead tokens) then and_then (p tokens) (λ a ks. 
 unfoldable pub more_of : {A : Type 0} → (Look → Bool) → Parser A → ℕ → List A → Parser (List A)
 more_of test p zero found tokens = refuse tokens
 more_of test p (suc turns) found tokens =
-    if test (ahead tokens) then and_then (p tokens) (λ a ks. more_of test p turns (found ++ a ∷ []) ks) else Ok (found, tokens)
+    if test (ahead tokens) then and_then (p tokens) (λ a ks. more_of test p turns (found ++ a ∷ []) ks)
+    else Ok (found, tokens)
 
 abbrev pub many : {A : Type 0} → (Look → Bool) → Parser A → ℕ → Parser (List A)
 many test p turns tokens = more_of test p turns [] tokens

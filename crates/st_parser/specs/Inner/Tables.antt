@@ -1,3 +1,4 @@
+-- Nobody has to believe what stands here: it serves private functions alone.
 -- The tokens that stand for an operator, a function, a truth value, a sign or a type.
 use Rattle.std.specs.Prelude.{Bool, true, false, Option, Some, None}
 use Rattle.st_tree.specs.declared.token.Fixed.{Fixed}
