@@ -11,7 +11,6 @@ use Rattle.scan_machine.specs.Inner.Reaches.{array_reach, reach, store_reach, Li
 use Rattle.scan_machine.specs.Rules.{Touches, StoresTo, HasWords}
 use Rattle.scan_machine.specs.Elements.{IsElement}
 use Rattle.scan_machine.proofs.Calling.{fields_some}
-use Rattle.scan_machine.specs.Inner.Groups.{GoesOn, IsOperation}
 
 -- ---- the relations and the reach
 
@@ -100,28 +99,3 @@ array_there words address low high instr up is h =
 pub stored_to : (b : Bool) (instr : Instr) (word : ℕ) (r : Option (ℕ × ℕ)) → r ≡ store_reach instr → (IsTrue b ↔ Lies word r) → (IsTrue b ↔ StoresTo instr word)
 stored_to b instr word r is h =
     ((λ t. lies_stores instr word (subst (λ r. Lies word r) is (h.0 t))), (λ s. h.1 (subst (λ r. Lies word r) (sym is) (stores_lies instr word s))))
-
--- ---- the groups of instructions
-
--- an instruction that is none of these goes on to the next one
-pub goes_on : (instr : Instr) → ((t : ℕ) → instr ≡ i.Jump t → ⊥) → ((t : ℕ) → instr ≡ i.JumpFalse t → ⊥)
-    → ((a : ℕ) → (k : Kind) → (s l : ℤ) → (b : ℕ) → instr ≡ i.Next a k s l b → ⊥) → GoesOn instr
-goes_on (i.Jump t) j jf n = absurd (j t refl)
-goes_on (i.JumpFalse t) j jf n = absurd (jf t refl)
-goes_on (i.Next a k step last b) j jf n = absurd (n a k step last b refl)
-goes_on _ j jf n = tt
-
--- and one that is none of these either works on operands alone
-pub is_operation : (instr : Instr) → GoesOn instr → ((v : ℤ) → instr ≡ i.Push v → ⊥) → ((a : ℕ) → (k : Kind) → instr ≡ i.Load a k → ⊥) → ((a : ℕ) → (k : Kind) → instr ≡ i.Store a k → ⊥)
-    → ((a : ℕ) → (k : Kind) → (l h : ℤ) → instr ≡ i.LoadAt a k l h → ⊥) → ((a : ℕ) → (k : Kind) → (l h : ℤ) → instr ≡ i.StoreAt a k l h → ⊥)
-    → ((k : BlockKind) → (a : ℕ) → instr ≡ i.Call k a → ⊥) → IsOperation instr
-is_operation (i.Push v) g p l s la sa c = absurd (p v refl)
-is_operation (i.Load a k) g p l s la sa c = absurd (l a k refl)
-is_operation (i.Store a k) g p l s la sa c = absurd (s a k refl)
-is_operation (i.LoadAt a k low high) g p l s la sa c = absurd (la a k low high refl)
-is_operation (i.StoreAt a k low high) g p l s la sa c = absurd (sa a k low high refl)
-is_operation (i.Jump t) g p l s la sa c = absurd g
-is_operation (i.JumpFalse t) g p l s la sa c = absurd g
-is_operation (i.Next a k step last b) g p l s la sa c = absurd g
-is_operation (i.Call k a) g p l s la sa c = absurd (c k a refl)
-is_operation _ g p l s la sa c = tt

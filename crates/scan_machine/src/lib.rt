@@ -5,8 +5,10 @@
 mod counting;
 mod depths;
 mod instructions;
+mod jumps;
 mod laws;
 mod machine;
+mod memory;
 mod operations;
 mod rules;
 mod running;

@@ -1,60 +1,270 @@
-// The instructions that work on operands alone. Each says whether a number was clamped. One `match`
-// after the other names each instruction once, so that together they are one choice.
+// The instructions that work on operands alone. Each says whether a number was clamped.
 
-ghost use Rattle.std.specs.Prelude.{◌≡◌, ◌<◌, ◌≤◌, ◌+◌, Some, length};
-ghost use Rattle.scan_machine.specs.Rules.{takes};
-ghost use Rattle.scan_machine.specs.Machine.{operate};
-ghost use Rattle.scan_machine.specs.Inner.Groups.{IsOperation, IsTwoOperand, IsTest, IsComparison};
-ghost use Rattle.scan_machine.specs.Inner.Waiting.{waiting};
+ghost use Rattle.std.specs.Prelude.{◌≡◌, ◌<◌, ◌≤◌, ◌+◌};
+ghost use Rattle.scan_machine.specs.Inner.Waiting.{Operates};
 
 use crate::instructions::Instr;
 use crate::stack::{Places, pop, pop_two, push, push_computed, push_truth};
-use function_blocks::{exact, is_on, quotient, remainder};
+use function_blocks::{Kind, exact, is_on, quotient, remainder};
 
-/// Does an instruction that works on operands alone.
+/// Turns the sign.
 #[inline(always)]
-pub(crate) fn operate(instr: &Instr, places: &mut Places, depth: &mut usize) -> bool
-    requires kind { IsOperation instr.now }
-    requires operands { takes instr.now ≤ depth.old }
+pub(crate) fn negate(kind: Kind, places: &mut Places, depth: &mut usize) -> bool
+    requires operands { 1 ≤ depth.old }
     requires within { depth.old ≤ 1024 }
-    ensures value { operate instr.now (waiting places.old depth.old)
-        ≡ Some (record { stack = waiting places.new depth.new; flag = result }) }
-    ensures depth { depth.new + takes instr.now ≡ depth.old + 1 }
+    ensures value { Operates (Instr.Neg kind) places.old depth.old places.new depth.new result }
+    ensures depth { depth.new ≡ depth.old }
 {
-    match *instr {
-        Instr::Neg(kind) => {
-            let x = pop(places, depth);
-            push_computed(places, depth, exact(kind, -x))
-        }
-        Instr::Abs(kind) => {
-            let x = pop(places, depth);
-            push_computed(places, depth, exact(kind, x.abs()))
-        }
-        Instr::Convert(kind) => {
-            let x = pop(places, depth);
-            push_computed(places, depth, exact(kind, x))
-        }
-        Instr::Not => {
-            let x = pop(places, depth);
-            push_truth(places, depth, !is_on(x))
-        }
-        Instr::Within(low, high) => {
-            let x = pop(places, depth);
-            push_truth(places, depth, low <= x && x <= high)
-        }
-        Instr::Limit => limit(places, depth),
-        Instr::Select => select(places, depth),
-        _ => compute(instr, places, depth),
-    }
+    let x = pop(places, depth);
+    push_computed(places, depth, exact(kind, -x))
 }
 
-// Limits an operand to two others.
+/// Takes the sign away.
 #[inline(always)]
-fn limit(places: &mut Places, depth: &mut usize) -> bool
+pub(crate) fn absolute(kind: Kind, places: &mut Places, depth: &mut usize) -> bool
+    requires operands { 1 ≤ depth.old }
+    requires within { depth.old ≤ 1024 }
+    ensures value { Operates (Instr.Abs kind) places.old depth.old places.new depth.new result }
+    ensures depth { depth.new ≡ depth.old }
+{
+    let x = pop(places, depth);
+    push_computed(places, depth, exact(kind, x.abs()))
+}
+
+/// Clamps to another kind.
+#[inline(always)]
+pub(crate) fn convert(kind: Kind, places: &mut Places, depth: &mut usize) -> bool
+    requires operands { 1 ≤ depth.old }
+    requires within { depth.old ≤ 1024 }
+    ensures value { Operates (Instr.Convert kind) places.old depth.old places.new depth.new result }
+    ensures depth { depth.new ≡ depth.old }
+{
+    let x = pop(places, depth);
+    push_computed(places, depth, exact(kind, x))
+}
+
+/// Whether the operand is FALSE.
+#[inline(always)]
+pub(crate) fn invert(places: &mut Places, depth: &mut usize) -> bool
+    requires operands { 1 ≤ depth.old }
+    requires within { depth.old ≤ 1024 }
+    ensures value { Operates Instr.Not places.old depth.old places.new depth.new result }
+    ensures depth { depth.new ≡ depth.old }
+{
+    let x = pop(places, depth);
+    push_truth(places, depth, !is_on(x))
+}
+
+/// Whether the operand lies from the first number to the second.
+#[inline(always)]
+pub(crate) fn lies(low: i64, high: i64, places: &mut Places, depth: &mut usize) -> bool
+    requires operands { 1 ≤ depth.old }
+    requires within { depth.old ≤ 1024 }
+    ensures value { Operates (Instr.Within low high) places.old depth.old places.new depth.new result }
+    ensures depth { depth.new ≡ depth.old }
+{
+    let x = pop(places, depth);
+    push_truth(places, depth, low <= x && x <= high)
+}
+
+/// Adds two operands.
+#[inline(always)]
+pub(crate) fn add(kind: Kind, places: &mut Places, depth: &mut usize) -> bool
+    requires operands { 2 ≤ depth.old }
+    requires within { depth.old ≤ 1024 }
+    ensures value { Operates (Instr.Add kind) places.old depth.old places.new depth.new result }
+    ensures depth { depth.new + 1 ≡ depth.old }
+{
+    let (x, y) = pop_two(places, depth);
+    push_computed(places, depth, exact(kind, x + y))
+}
+
+/// Subtracts the operand on top from the one below.
+#[inline(always)]
+pub(crate) fn subtract(kind: Kind, places: &mut Places, depth: &mut usize) -> bool
+    requires operands { 2 ≤ depth.old }
+    requires within { depth.old ≤ 1024 }
+    ensures value { Operates (Instr.Sub kind) places.old depth.old places.new depth.new result }
+    ensures depth { depth.new + 1 ≡ depth.old }
+{
+    let (x, y) = pop_two(places, depth);
+    push_computed(places, depth, exact(kind, x - y))
+}
+
+/// Multiplies two operands.
+#[inline(always)]
+pub(crate) fn multiply(kind: Kind, places: &mut Places, depth: &mut usize) -> bool
+    requires operands { 2 ≤ depth.old }
+    requires within { depth.old ≤ 1024 }
+    ensures value { Operates (Instr.Mul kind) places.old depth.old places.new depth.new result }
+    ensures depth { depth.new + 1 ≡ depth.old }
+{
+    let (x, y) = pop_two(places, depth);
+    push_computed(places, depth, exact(kind, x * y))
+}
+
+/// Divides by the operand on top.
+#[inline(always)]
+pub(crate) fn divide(kind: Kind, places: &mut Places, depth: &mut usize) -> bool
+    requires operands { 2 ≤ depth.old }
+    requires within { depth.old ≤ 1024 }
+    ensures value { Operates (Instr.Div kind) places.old depth.old places.new depth.new result }
+    ensures depth { depth.new + 1 ≡ depth.old }
+{
+    let (x, y) = pop_two(places, depth);
+    push_computed(places, depth, quotient(kind, x, y))
+}
+
+/// Gives what a division leaves.
+#[inline(always)]
+pub(crate) fn modulo(kind: Kind, places: &mut Places, depth: &mut usize) -> bool
+    requires operands { 2 ≤ depth.old }
+    requires within { depth.old ≤ 1024 }
+    ensures value { Operates (Instr.Mod kind) places.old depth.old places.new depth.new result }
+    ensures depth { depth.new + 1 ≡ depth.old }
+{
+    let (x, y) = pop_two(places, depth);
+    push_computed(places, depth, remainder(kind, x, y))
+}
+
+/// Gives the lesser operand.
+#[inline(always)]
+pub(crate) fn least(kind: Kind, places: &mut Places, depth: &mut usize) -> bool
+    requires operands { 2 ≤ depth.old }
+    requires within { depth.old ≤ 1024 }
+    ensures value { Operates (Instr.Min kind) places.old depth.old places.new depth.new result }
+    ensures depth { depth.new + 1 ≡ depth.old }
+{
+    let (x, y) = pop_two(places, depth);
+    push_computed(places, depth, exact(kind, x.min(y)))
+}
+
+/// Gives the greater operand.
+#[inline(always)]
+pub(crate) fn greatest(kind: Kind, places: &mut Places, depth: &mut usize) -> bool
+    requires operands { 2 ≤ depth.old }
+    requires within { depth.old ≤ 1024 }
+    ensures value { Operates (Instr.Max kind) places.old depth.old places.new depth.new result }
+    ensures depth { depth.new + 1 ≡ depth.old }
+{
+    let (x, y) = pop_two(places, depth);
+    push_computed(places, depth, exact(kind, x.max(y)))
+}
+
+/// Whether both operands are TRUE.
+#[inline(always)]
+pub(crate) fn both(places: &mut Places, depth: &mut usize) -> bool
+    requires operands { 2 ≤ depth.old }
+    requires within { depth.old ≤ 1024 }
+    ensures value { Operates Instr.And places.old depth.old places.new depth.new result }
+    ensures depth { depth.new + 1 ≡ depth.old }
+{
+    let (x, y) = pop_two(places, depth);
+    push_truth(places, depth, is_on(x) && is_on(y))
+}
+
+/// Whether an operand is TRUE.
+#[inline(always)]
+pub(crate) fn either(places: &mut Places, depth: &mut usize) -> bool
+    requires operands { 2 ≤ depth.old }
+    requires within { depth.old ≤ 1024 }
+    ensures value { Operates Instr.Or places.old depth.old places.new depth.new result }
+    ensures depth { depth.new + 1 ≡ depth.old }
+{
+    let (x, y) = pop_two(places, depth);
+    push_truth(places, depth, is_on(x) || is_on(y))
+}
+
+/// Whether one operand alone is TRUE.
+#[inline(always)]
+pub(crate) fn one_alone(places: &mut Places, depth: &mut usize) -> bool
+    requires operands { 2 ≤ depth.old }
+    requires within { depth.old ≤ 1024 }
+    ensures value { Operates Instr.Xor places.old depth.old places.new depth.new result }
+    ensures depth { depth.new + 1 ≡ depth.old }
+{
+    let (x, y) = pop_two(places, depth);
+    push_truth(places, depth, is_on(x) != is_on(y))
+}
+
+/// Whether the operands are equal.
+#[inline(always)]
+pub(crate) fn equal(places: &mut Places, depth: &mut usize) -> bool
+    requires operands { 2 ≤ depth.old }
+    requires within { depth.old ≤ 1024 }
+    ensures value { Operates Instr.Eq places.old depth.old places.new depth.new result }
+    ensures depth { depth.new + 1 ≡ depth.old }
+{
+    let (x, y) = pop_two(places, depth);
+    push_truth(places, depth, x == y)
+}
+
+/// Whether they differ.
+#[inline(always)]
+pub(crate) fn unequal(places: &mut Places, depth: &mut usize) -> bool
+    requires operands { 2 ≤ depth.old }
+    requires within { depth.old ≤ 1024 }
+    ensures value { Operates Instr.Ne places.old depth.old places.new depth.new result }
+    ensures depth { depth.new + 1 ≡ depth.old }
+{
+    let (x, y) = pop_two(places, depth);
+    push_truth(places, depth, x != y)
+}
+
+/// Whether the first is below the second.
+#[inline(always)]
+pub(crate) fn below(places: &mut Places, depth: &mut usize) -> bool
+    requires operands { 2 ≤ depth.old }
+    requires within { depth.old ≤ 1024 }
+    ensures value { Operates Instr.Lt places.old depth.old places.new depth.new result }
+    ensures depth { depth.new + 1 ≡ depth.old }
+{
+    let (x, y) = pop_two(places, depth);
+    push_truth(places, depth, x < y)
+}
+
+/// Whether the first is above the second.
+#[inline(always)]
+pub(crate) fn above(places: &mut Places, depth: &mut usize) -> bool
+    requires operands { 2 ≤ depth.old }
+    requires within { depth.old ≤ 1024 }
+    ensures value { Operates Instr.Gt places.old depth.old places.new depth.new result }
+    ensures depth { depth.new + 1 ≡ depth.old }
+{
+    let (x, y) = pop_two(places, depth);
+    push_truth(places, depth, x > y)
+}
+
+/// Whether the first isn't above the second.
+#[inline(always)]
+pub(crate) fn at_most(places: &mut Places, depth: &mut usize) -> bool
+    requires operands { 2 ≤ depth.old }
+    requires within { depth.old ≤ 1024 }
+    ensures value { Operates Instr.Le places.old depth.old places.new depth.new result }
+    ensures depth { depth.new + 1 ≡ depth.old }
+{
+    let (x, y) = pop_two(places, depth);
+    push_truth(places, depth, x <= y)
+}
+
+/// Whether the first isn't below the second.
+#[inline(always)]
+pub(crate) fn at_least(places: &mut Places, depth: &mut usize) -> bool
+    requires operands { 2 ≤ depth.old }
+    requires within { depth.old ≤ 1024 }
+    ensures value { Operates Instr.Ge places.old depth.old places.new depth.new result }
+    ensures depth { depth.new + 1 ≡ depth.old }
+{
+    let (x, y) = pop_two(places, depth);
+    push_truth(places, depth, x >= y)
+}
+
+/// Limits the second of three operands to the other two.
+#[inline(always)]
+pub(crate) fn limit(places: &mut Places, depth: &mut usize) -> bool
     requires operands { 3 ≤ depth.old }
     requires within { depth.old ≤ 1024 }
-    ensures value { operate Instr.Limit (waiting places.old depth.old)
-        ≡ Some (record { stack = waiting places.new depth.new; flag = result }) }
+    ensures value { Operates Instr.Limit places.old depth.old places.new depth.new result }
     ensures depth { depth.new + 2 ≡ depth.old }
 {
     let (value, greatest) = pop_two(places, depth);
@@ -63,13 +273,12 @@ fn limit(places: &mut Places, depth: &mut usize) -> bool
     false
 }
 
-// Selects one of two operands by a third.
+/// Selects one of two operands by the one below them.
 #[inline(always)]
-fn select(places: &mut Places, depth: &mut usize) -> bool
+pub(crate) fn select(places: &mut Places, depth: &mut usize) -> bool
     requires operands { 3 ≤ depth.old }
     requires within { depth.old ≤ 1024 }
-    ensures value { operate Instr.Select (waiting places.old depth.old)
-        ≡ Some (record { stack = waiting places.new depth.new; flag = result }) }
+    ensures value { Operates Instr.Select places.old depth.old places.new depth.new result }
     ensures depth { depth.new + 2 ≡ depth.old }
 {
     let (first, second) = pop_two(places, depth);
@@ -80,113 +289,4 @@ fn select(places: &mut Places, depth: &mut usize) -> bool
     };
     push(places, depth, chosen);
     false
-}
-
-// Computes a number of two operands.
-#[inline(always)]
-fn compute(instr: &Instr, places: &mut Places, depth: &mut usize) -> bool
-    requires kind { IsTwoOperand instr.now }
-    requires operands { 2 ≤ depth.old }
-    requires within { depth.old ≤ 1024 }
-    ensures value { operate instr.now (waiting places.old depth.old)
-        ≡ Some (record { stack = waiting places.new depth.new; flag = result }) }
-    ensures depth { depth.new + 1 ≡ depth.old }
-{
-    match *instr {
-        Instr::Add(kind) => {
-            let (x, y) = pop_two(places, depth);
-            push_computed(places, depth, exact(kind, x + y))
-        }
-        Instr::Sub(kind) => {
-            let (x, y) = pop_two(places, depth);
-            push_computed(places, depth, exact(kind, x - y))
-        }
-        Instr::Mul(kind) => {
-            let (x, y) = pop_two(places, depth);
-            push_computed(places, depth, exact(kind, x * y))
-        }
-        Instr::Div(kind) => {
-            let (x, y) = pop_two(places, depth);
-            push_computed(places, depth, quotient(kind, x, y))
-        }
-        Instr::Mod(kind) => {
-            let (x, y) = pop_two(places, depth);
-            push_computed(places, depth, remainder(kind, x, y))
-        }
-        Instr::Min(kind) => {
-            let (x, y) = pop_two(places, depth);
-            push_computed(places, depth, exact(kind, x.min(y)))
-        }
-        Instr::Max(kind) => {
-            let (x, y) = pop_two(places, depth);
-            push_computed(places, depth, exact(kind, x.max(y)))
-        }
-        _ => test(instr, places, depth),
-    }
-}
-
-// Asks something of the truth of two operands.
-#[inline(always)]
-fn test(instr: &Instr, places: &mut Places, depth: &mut usize) -> bool
-    requires kind { IsTest instr.now }
-    requires operands { 2 ≤ depth.old }
-    requires within { depth.old ≤ 1024 }
-    ensures value { operate instr.now (waiting places.old depth.old)
-        ≡ Some (record { stack = waiting places.new depth.new; flag = result }) }
-    ensures depth { depth.new + 1 ≡ depth.old }
-{
-    match *instr {
-        Instr::And => {
-            let (x, y) = pop_two(places, depth);
-            push_truth(places, depth, is_on(x) && is_on(y))
-        }
-        Instr::Or => {
-            let (x, y) = pop_two(places, depth);
-            push_truth(places, depth, is_on(x) || is_on(y))
-        }
-        Instr::Xor => {
-            let (x, y) = pop_two(places, depth);
-            push_truth(places, depth, is_on(x) != is_on(y))
-        }
-        _ => compare(instr, places, depth),
-    }
-}
-
-// Compares two operands.
-#[inline(always)]
-fn compare(instr: &Instr, places: &mut Places, depth: &mut usize) -> bool
-    requires kind { IsComparison instr.now }
-    requires operands { 2 ≤ depth.old }
-    requires within { depth.old ≤ 1024 }
-    ensures value { operate instr.now (waiting places.old depth.old)
-        ≡ Some (record { stack = waiting places.new depth.new; flag = result }) }
-    ensures depth { depth.new + 1 ≡ depth.old }
-{
-    match *instr {
-        Instr::Eq => {
-            let (x, y) = pop_two(places, depth);
-            push_truth(places, depth, x == y)
-        }
-        Instr::Ne => {
-            let (x, y) = pop_two(places, depth);
-            push_truth(places, depth, x != y)
-        }
-        Instr::Lt => {
-            let (x, y) = pop_two(places, depth);
-            push_truth(places, depth, x < y)
-        }
-        Instr::Gt => {
-            let (x, y) = pop_two(places, depth);
-            push_truth(places, depth, x > y)
-        }
-        Instr::Le => {
-            let (x, y) = pop_two(places, depth);
-            push_truth(places, depth, x <= y)
-        }
-        Instr::Ge => {
-            let (x, y) = pop_two(places, depth);
-            push_truth(places, depth, x >= y)
-        }
-        _ => unreachable!(),
-    }
 }

@@ -1,10 +1,11 @@
 -- Nobody has to believe what stands here: it serves private functions alone.
 -- The operands that wait, as they stand at their places.
-use Rattle.std.specs.Prelude.{◌≡◌, ℕ, zero, suc, ℤ, pos, Bool, List, [], ◌∷◌, length, slice_index_or}
+use Rattle.std.specs.Prelude.{◌≡◌, ℕ, zero, suc, ℤ, pos, Bool, List, [], ◌∷◌, Some, length, slice_index_or}
 use Rattle.std.specs.List.{All}
 use Rattle.tri_base.specs.Noted.{TouchedValue}
 use Rattle.function_blocks.specs.Values.{IsOperand}
-use Rattle.scan_machine.specs.Machine.{State}
+use Rattle.scan_machine.specs.declared.instructions.Instr.{Instr}
+use Rattle.scan_machine.specs.Machine.{State, operate}
 
 -- the places of the operands: so many, with numbers in the range of a constant
 pub record ArePlaces (places : List ℤ) : Type 0 where
@@ -20,3 +21,8 @@ waiting places (suc n) = slice_index_or places n (pos 0) ∷ waiting places n
 abbrev pub here : ℕ → List ℤ → ℕ → List ℤ → Bool → TouchedValue → State
 here index places depth words flag touched =
     record { index = index; stack = waiting places depth; words = words; flag = flag; stores = touched.pairs }
+
+-- an instruction that works on operands alone leaves such places, and says whether a number was clamped
+abbrev pub Operates : Instr → List ℤ → ℕ → List ℤ → ℕ → Bool → Type 0
+Operates instr places depth places' depth' flag =
+    operate instr (waiting places depth) ≡ Some (record { stack = waiting places' depth'; flag = flag })

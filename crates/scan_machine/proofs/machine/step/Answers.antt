@@ -1,65 +1,36 @@
-use Rattle.std.proofs.Common.{◌≡◌, ◌<◌, pos, ◌+ℤ◌, length, to_z, of_z, w64, arith, rules, ap, subst, ◌∙◌}
-use Rattle.std.proofs.lemmas.Int.{ints}
-use Rattle.std.specs.Prelude.{slice_index_or}
-use Rattle.tri_base.specs.Noted.{TouchedValue}
+use Rattle.std.proofs.Common.{◌≡◌, ◌<◌, ◌≤◌, ◌+◌, ◌-◌, length, arith, ap, subst, refl, ◌∙◌}
 use Rattle.scan_machine.specs.declared.instructions.Instr.{Instr}
-use Rattle.scan_machine.specs.declared.instructions.Instr.TheVariants as i
-use Rattle.function_blocks.specs.Values.{clamped}
-use Rattle.scan_machine.specs.Rules.{HasConstants}
+use Rattle.function_blocks.specs.Fields.{field_count}
+use Rattle.scan_machine.specs.Rules.{HasWords}
 use Rattle.scan_machine.specs.Inner.Reaches.{reach}
-use Rattle.scan_machine.specs.Machine.{State, read, does}
-use Rattle.scan_machine.specs.Inner.Waiting.{waiting}
-use Rattle.scan_machine.proofs.Reaches.{reach_there, goes_on}
-use Rattle.scan_machine.proofs.Turns.{within_dint}
-use Rattle.scan_machine.proofs.Turning.{next_left, next_back}
+use Rattle.scan_machine.specs.Machine.{does}
+use Rattle.scan_machine.specs.Inner.Waiting.{here}
+use Rattle.scan_machine.proofs.Reaches.{reach_there}
+use Rattle.scan_machine.proofs.Calling.{fields_some}
 use Rattle.scan_machine.proofs.machine.step.Goals as goal
 
-pub offset_bounds-words-address : goal.offset_bounds-words-address
-offset_bounds-words-address c =
-    let h = reach_there (length c.args.words.now) c.in-Next.address 0 c.args.instr.now (ap reach c.in-Next.is) c.requires.words in
-    let there : c.in-Next.address < length c.args.words.now = omega (arith, h) in search rules
-
-pub slice_copy_out-clamp_to : goal.slice_copy_out-clamp_to
-slice_copy_out-clamp_to c =
-    let h = reach_there (length c.args.words.now) c.in-Next.address 0 c.args.instr.now (ap reach c.in-Next.is) c.requires.words in omega (arith, h)
+pub load-requires-clause-place : goal.load-requires-clause-place
+load-requires-clause-place c =
+    let n = c.in-Load in subst (HasWords (length c.args.words.now)) n.is c.requires.words n.address refl
 
 pub store-requires-clause-place : goal.store-requires-clause-place
 store-requires-clause-place c =
-    let h = reach_there (length c.args.words.now) c.in-Next.address 0 c.args.instr.now (ap reach c.in-Next.is) c.requires.words in omega (arith, h)
+    let n = c.in-Store in subst (HasWords (length c.args.words.now)) n.is c.requires.words n.address refl
 
-pub returns-then-is_past-clause-value : goal.returns-then-is_past-clause-value
-returns-then-is_past-clause-value c =
-    let n = c.in-Next in let r = c.clamp_to.result in
-    let consts : HasConstants (i.Next n.address n.kind n.step n.last n.back) = subst HasConstants n.is c.requires.constants in
-    let small = within_dint n.kind n.step consts.0 in
-    let word = slice_index_or c.args.words.now n.address (pos 0) in
-    let fits : to_z w64 (of_z w64 word) ≡ word = omega (arith, ints) in
-    let is : r ≡ read c.args.words.now n.address n.kind = c.clamp_to.ensures.value ∙ ap (clamped n.kind) fits in
-    let e : to_z w64 (of_z w64 n.step) ≡ n.step = omega (arith, ints) in
-    let f : to_z w64 (of_z w64 n.last) ≡ n.last = omega (arith, ints) in
-    let g : to_z w64 (of_z w64 (to_z w64 (of_z w64 r) +ℤ to_z w64 (of_z w64 n.step))) ≡ r +ℤ n.step = omega (arith, ints, small.0, small.1, c.clamp_to.ensures.operand) in
-    let s : State = record { index = c.args.index; stack = waiting c.args.places.now c.args.depth.now; words = c.args.words.now; flag = c.args.flag.now; stores = c.args.touched.now.pairs } in
-    ap (λ (m : Instr). does c.args.dt m s) n.is
-    ∙ next_left c.args.dt c.args.index (waiting c.args.places.now c.args.depth.now) c.args.words.now c.args.flag.now c.args.touched.now.pairs n.address n.kind n.step n.last n.back
-    c.is_past.result _ _ _ c.is_past.ensures e f (g ∙ ap (λ z. z +ℤ n.step) is) c.if-is_past.true
+pub call-requires-clause-place : goal.call-requires-clause-place
+call-requires-clause-place c =
+    let n = c.in-Call in
+    let h = reach_there (length c.args.words.now) n.address (field_count n.kind - 1) c.args.instr.now (ap reach n.is) c.requires.words in
+    let some = fields_some n.kind in
+    omega (arith, h, some)
 
-pub returns-else-is_past-clause-value : goal.returns-else-is_past-clause-value
-returns-else-is_past-clause-value c =
-    let n = c.in-Next in let r = c.clamp_to.result in let put = c.store in
-    let consts : HasConstants (i.Next n.address n.kind n.step n.last n.back) = subst HasConstants n.is c.requires.constants in
-    let small = within_dint n.kind n.step consts.0 in
-    let word = slice_index_or c.args.words.now n.address (pos 0) in
-    let fits : to_z w64 (of_z w64 word) ≡ word = omega (arith, ints) in
-    let is : r ≡ read c.args.words.now n.address n.kind = c.clamp_to.ensures.value ∙ ap (clamped n.kind) fits in
-    let e : to_z w64 (of_z w64 n.step) ≡ n.step = omega (arith, ints) in
-    let f : to_z w64 (of_z w64 n.last) ≡ n.last = omega (arith, ints) in
-    let g : to_z w64 (of_z w64 (to_z w64 (of_z w64 r) +ℤ to_z w64 (of_z w64 n.step))) ≡ r +ℤ n.step = omega (arith, ints, small.0, small.1, c.clamp_to.ensures.operand) in
-    let s : State = record { index = c.args.index; stack = waiting c.args.places.now c.args.depth.now; words = c.args.words.now; flag = c.args.flag.now; stores = c.args.touched.now.pairs } in
-    ap (λ (m : Instr). does c.args.dt m s) n.is
-    ∙ next_back c.args.dt c.args.index (waiting c.args.places.now c.args.depth.now) c.args.words.now c.args.flag.now c.args.touched.now.pairs n.address n.kind n.step n.last n.back
-    c.is_past.result _ _ _ c.is_past.ensures e f (g ∙ ap (λ z. z +ℤ n.step) is)
-    put.new.words put.new.touched.pairs c.if-is_past.false put.ensures.words (ap (λ (t : TouchedValue). t.pairs) put.ensures.touched)
+pub returns-in-Store-clause-value : goal.returns-in-Store-clause-value
+returns-in-Store-clause-value c =
+    let s = here c.args.index c.args.places.now c.args.depth.now c.args.words.now c.args.flag.now c.args.touched.now in
+    ap (λ (m : Instr). does c.args.dt m s) c.in-Store.is ∙ c.store.ensures.value c.args.dt c.args.flag.now
 
-pub act-requires-clause-goes_on : goal.act-requires-clause-goes_on
-act-requires-clause-goes_on c =
-    let n = c.in_default in goes_on c.args.instr.now n.not-Jump n.not-JumpFalse n.not-Next
+pub returns-in-JumpFalse-clause-value : goal.returns-in-JumpFalse-clause-value
+returns-in-JumpFalse-clause-value c =
+    let s = here c.args.index c.args.places.now c.args.depth.now c.args.words.now c.args.flag.now c.args.touched.now in
+    ap (λ (m : Instr). does c.args.dt m s) c.in-JumpFalse.is
+    ∙ c.jump_false.ensures.value c.args.dt c.args.words.now c.args.flag.now c.args.touched.now

@@ -1,6 +1,6 @@
 use Rattle.std.proofs.Common.{◌≡◌, ◌+◌, drop}
 use Rattle.scan_machine.specs.Machine.{noted_all}
-use Rattle.scan_machine.proofs.machine.note_all.Given as goal
+use Rattle.scan_machine.proofs.memory.note_all.Given as goal
 
 -- what is left to note gives what the whole gives
 abbrev pub invariant-loop-n : goal.invariant-loop-n

@@ -1,7 +1,7 @@
 use Rattle.std.proofs.Common.{◌≡◌, to_z, of_z, w64, arith}
 use Rattle.std.proofs.lemmas.Int.{ints}
 use Rattle.scan_machine.proofs.Calling.{called_words}
-use Rattle.scan_machine.proofs.machine.call.Goals as goal
+use Rattle.scan_machine.proofs.memory.call.Goals as goal
 
 pub returns-clause-words : goal.returns-clause-words
 returns-clause-words c =

@@ -3,7 +3,7 @@ use Rattle.std.proofs.lemmas.Int.{ints}
 use Rattle.tri_base.specs.Noted.{TouchedValue}
 use Rattle.scan_machine.specs.Inner.Waiting.{waiting}
 use Rattle.scan_machine.proofs.Turning.{stores_at}
-use Rattle.scan_machine.proofs.machine.store_at.Goals as goal
+use Rattle.scan_machine.proofs.memory.store_at.Goals as goal
 
 pub returns-clause-value : goal.returns-clause-value
 returns-clause-value c dt =
@@ -17,8 +17,8 @@ returns-clause-value c dt =
     let eh : to_z w64 (of_z w64 high) ≡ high = omega (arith, ints) in
     let ei : to_z w64 (of_z w64 index.value) ≡ index.value = omega (arith, ints) in
     let ed : to_z w64 (of_z w64 value) ≡ value = omega (arith, ints) in
-    stores_at c.args.address c.args.kind low high (waits c.args.depth.now) (x ∷ rest) rest c.args.words.now c.store.new.words
-    c.args.touched.now.pairs c.store.new.touched.pairs v x
+    stores_at c.args.address c.args.kind low high (waits c.args.depth.now) (x ∷ rest) rest c.args.words.now c.put.new.words
+    c.args.touched.now.pairs c.put.new.touched.pairs v x
     (p v) (p x) (p low) (p high) (p index.value) (p value) value index c.element.result
     two.ensures.top refl ev ex el eh ei ed c.clamp_to-value.ensures.value c.bounded-index.ensures.value c.element.ensures
-    c.store.ensures.words (ap (λ (t : TouchedValue). t.pairs) c.store.ensures.touched)
+    c.put.ensures.words (ap (λ (t : TouchedValue). t.pairs) c.put.ensures.touched)

@@ -1,0 +1,73 @@
+// The instructions that may go elsewhere than to the next place.
+
+ghost use Rattle.std.specs.Prelude.{ℕ, ℤ, Bool, List, ◌≡◌, ◌<◌, ◌≤◌, ◌+◌, ◌^◌, Some, length};
+ghost use Rattle.scan_machine.specs.Rules.{HasWords, HasConstants};
+ghost use Rattle.scan_machine.specs.Machine.{does, is_past};
+ghost use Rattle.scan_machine.specs.Inner.Waiting.{waiting, here};
+ghost use Rattle.tri_base.specs.Noted.{TouchedValue};
+ghost use Rattle.scan_machine.specs.Inner.Groups.{IsNext};
+
+use crate::instructions::Instr;
+use crate::memory::put;
+use crate::stack::{Places, pop};
+use function_blocks::{clamp_to, is_on};
+use tri_base::Touched;
+
+/// Pops an operand, and goes to the target where it is FALSE.
+#[inline(always)]
+pub(crate) fn jump_false(target: usize, index: usize, places: &Places, depth: &mut usize) -> usize
+    requires some { 0 < depth.old }
+    requires held { depth.old ≤ 1024 }
+    requires index { index < 2 ^ 63 }
+    ensures value { (dt : ℤ) → (words : List ℤ) → (was : Bool) → (t : TouchedValue)
+        → does dt (Instr.JumpFalse target) (here index places.now depth.old words was t)
+        ≡ Some (here result places.now depth.new words was t) }
+    ensures depth { depth.new + 1 ≡ depth.old }
+{
+    if is_on(pop(places, depth)) {
+        index + 1
+    } else {
+        target
+    }
+}
+
+/// Does a Next.
+#[inline(always)]
+pub(crate) fn turn(instr: &Instr, index: usize, words: &mut [i64], touched: &mut Touched) -> usize
+    requires kind { IsNext instr.now }
+    requires words { HasWords (length words.old) instr.now }
+    requires constants { HasConstants instr.now }
+    requires touched { length words.old ≤ touched.old.size }
+    requires index { index < 2 ^ 63 }
+    ensures value { (dt : ℤ) → (places : List ℤ) → (depth : ℕ) → (was : Bool)
+        → does dt instr.now (here index places depth words.old was touched.old)
+        ≡ Some (here result places depth words.new was touched.new) }
+    ensures size { touched.new.size ≡ touched.old.size }
+{
+    match *instr {
+        Instr::Next {
+            address,
+            kind,
+            step,
+            last,
+            back,
+        } => {
+            let sum = clamp_to(kind, words[address]) + step;
+            if is_past(step, last, sum) {
+                index + 1
+            } else {
+                put(words, touched, address, sum);
+                back
+            }
+        }
+        _ => unreachable!(),
+    }
+}
+
+// Whether a sum is past the last value, in the direction of the step.
+#[inline(always)]
+fn is_past(step: i64, last: i64, sum: i64) -> bool
+    ensures { result ≡ is_past step last sum }
+{
+    if step > 0 { sum > last } else { sum < last }
+}
