@@ -15,3 +15,4 @@ pub mod Places
 pub mod Tags
 pub mod Nesting
 pub mod TreeNesting
+pub mod Typing
