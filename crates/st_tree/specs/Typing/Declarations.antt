@@ -23,6 +23,7 @@ use Rattle.st_tree.specs.Typing.Operands.{same_kind}
 
 -- ---- names
 
+-- a tag of a point of this type
 abbrev pub kind_faults : ℕ → Kind → DeclaredType → List TypeFault
 kind_faults place k (declared.Simple own) = fault_if (not (same_kind k own)) place cause.PointKind
 kind_faults place k (declared.Array low high element) = fault place cause.PointKind ∷ []

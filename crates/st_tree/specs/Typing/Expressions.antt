@@ -26,7 +26,7 @@ plain_literal number place = record { sign = None; number = number; place = plac
 abbrev pub negated_literal : ℕ → ℕ → ℕ → Integer
 negated_literal at number place = record { sign = Some (sign.Minus, at); number = number; place = place }
 
--- brackets keep what stands inside, but for the place
+-- what is found of a primary; brackets keep what is found inside, and begin at another place
 abbrev pub primary_typing : List Tag → PrimaryPart PrimaryTyping Typing (List Typing) → PrimaryTyping
 primary_typing tags (Primary-F.Number number place) = NumberToken number place
 primary_typing tags (Primary-F.Truth value place) = Other (found place (Typed kind.Bool))
@@ -46,7 +46,7 @@ abbrev pub negated : ℕ → PrimaryTyping → Typing
 negated at (NumberToken number place) = found at (Free (negated_literal at number place ∷ []))
 negated at (Other part) = found at (integers (part ∷ []))
 
--- NOT takes a BOOL
+-- what is found of a primary with a sign, with NOT or with neither; NOT takes a BOOL
 abbrev pub unary_typing : UnaryPart PrimaryTyping Typing (List Typing) → Typing
 unary_typing (Unary-F.Plain primary) = unsigned primary
 unary_typing (Unary-F.Minus place primary) = negated place primary

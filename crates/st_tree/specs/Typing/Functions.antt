@@ -35,6 +35,7 @@ of_three function.Limit place a b c = integers (a ∷ b ∷ c ∷ [])
 of_three function.Sel place a b c = once_sound (faults_of (asked kind.Bool a)) (alike b c)
 of_three _ place a b c = wrong_count place
 
+-- by their number
 abbrev pub of_arguments : Function → ℕ → List Typing → Outcome
 of_arguments f place (a ∷ []) = of_one f place a
 of_arguments f place (a ∷ b ∷ []) = of_two f place a b

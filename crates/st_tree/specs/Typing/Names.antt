@@ -18,6 +18,7 @@ unknown_name n = Faulty (fault n.place cause.UnknownName) []
 abbrev pub bad_field : PlacedName → Outcome
 bad_field n = Faulty (fault n.place cause.BadField) []
 
+-- by the type that the tag is declared with
 abbrev pub value_of_tag : PlacedName → DeclaredType → Outcome
 value_of_tag n (declared.Simple k) = Typed k
 value_of_tag n (declared.Array low high k) = wrong_type n.place
@@ -28,10 +29,12 @@ abbrev pub tag_value : PlacedName → Option Tag → Outcome
 tag_value n None = unknown_name n
 tag_value n (Some tag) = value_of_tag n tag.declared
 
+-- by the type of the output, if there is one
 abbrev pub output_value : PlacedName → Option Kind → Outcome
 output_value n None = bad_field n
 output_value n (Some k) = Typed k
 
+-- by the type that the tag is declared with
 abbrev pub value_of_field : PlacedName → PlacedName → DeclaredType → Outcome
 value_of_field n field (declared.Simple k) = wrong_type n.place
 value_of_field n field (declared.Array low high k) = wrong_type n.place
@@ -42,6 +45,7 @@ abbrev pub field_value : PlacedName → PlacedName → Option Tag → Outcome
 field_value n field None = unknown_name n
 field_value n field (Some tag) = value_of_field n field tag.declared
 
+-- by the type that the tag is declared with
 abbrev pub value_of_element : PlacedName → Typing → DeclaredType → Outcome
 value_of_element n index (declared.Simple k) = wrong_type n.place
 value_of_element n index (declared.Array low high k) = once_sound (faults_of (as_integer index)) (Typed k)

@@ -22,6 +22,7 @@ pub record Typing : Type 0 where
   pub first : ℕ
   pub outcome : Outcome
 
+-- an expression that begins at this place, and what is found of it
 abbrev pub found : ℕ → Outcome → Typing
 found first outcome = record { first = first; outcome = outcome }
 
@@ -31,6 +32,7 @@ wrong_type place = Faulty (fault place cause.WrongType) []
 
 -- ---- faults
 
+-- the rules that it breaks
 abbrev pub faults_of : Outcome → List TypeFault
 faults_of (Faulty f fs) = f ∷ fs
 faults_of (Typed k) = []
@@ -57,12 +59,14 @@ once_sound (f ∷ fs) rule = Faulty f fs
 abbrev pub fixed : Kind → List Integer → Outcome
 fixed k literals = once_sound (outside k literals) (Typed k)
 
+-- the two types are one
 abbrev pub same_kind : Kind → Kind → Bool
 same_kind kind.Bool kind.Bool = true
 same_kind kind.Int kind.Int = true
 same_kind kind.Dint kind.Dint = true
 same_kind _ _ = false
 
+-- by what is found of it
 abbrev pub asked_of : Kind → ℕ → Outcome → Outcome
 asked_of k first (Faulty f fs) = Faulty f fs
 asked_of k first (Typed own) = if same_kind k own then Typed own else wrong_type first
@@ -74,6 +78,7 @@ asked_of kind.Dint first (Free literals) = fixed kind.Dint literals
 abbrev pub asked : Kind → Typing → Outcome
 asked k part = asked_of k part.first part.outcome
 
+-- by what is found of it
 abbrev pub integer_of : ℕ → Outcome → Outcome
 integer_of first (Faulty f fs) = Faulty f fs
 integer_of first (Typed kind.Bool) = wrong_type first
@@ -102,6 +107,7 @@ pub data Join : Type 0 where
   Unlike : ℕ → Join
   Alike : Option Kind → List Integer → Join
 
+-- with one operand more, by what is found of that
 abbrev pub joined_part : Option Kind → List Integer → ℕ → Outcome → Join
 joined_part k literals first (Free more) = Alike k (literals ++ more)
 joined_part k literals first (Faulty f fs) = Alike k literals
@@ -125,6 +131,7 @@ settled (Alike _ literals) = Free literals
 abbrev pub integers : List Typing → Outcome
 integers parts = once_sound (faults_in parts) (settled (fold joined (Alike None []) parts))
 
+-- by what is found of the first of two
 abbrev pub alike_by : Outcome → List Typing → Outcome
 alike_by (Typed kind.Bool) parts = booleans parts
 alike_by _ parts = integers parts
@@ -143,14 +150,18 @@ compared (Free literals) = once_sound (outside kind.Dint literals) (Typed kind.B
 abbrev pub chain : (Typing → Typing → Outcome) → Typing → List Typing → Typing
 chain rule first more = fold (λ left right. found left.first (rule left right)) first more
 
+-- two operands of AND, OR, XOR
 abbrev pub both_bool : Typing → Typing → Outcome
 both_bool left right = booleans (left ∷ right ∷ [])
 
+-- two operands of an arithmetic operator
 abbrev pub both_integer : Typing → Typing → Outcome
 both_integer left right = integers (left ∷ right ∷ [])
 
+-- two operands of = or <>
 abbrev pub compared_alike : Typing → Typing → Outcome
 compared_alike left right = compared (alike left right)
 
+-- two operands of <, >, <= or >=
 abbrev pub compared_integers : Typing → Typing → Outcome
 compared_integers left right = compared (both_integer left right)

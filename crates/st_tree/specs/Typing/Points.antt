@@ -26,6 +26,7 @@ is_input_kind Ai = true
 is_input_kind Do = false
 is_input_kind Ao = false
 
+-- the point is an input; none is none
 abbrev pub is_input : Option Point → Bool
 is_input None = false
 is_input (Some p) = is_input_kind p.kind

@@ -1,5 +1,5 @@
--- Typing of whole programs: a program is well typed where it breaks no typing rule. Else its first fault is that with the
--- least byte place and, at one place, that of the rule that comes first. Own rule.
+-- Typing of whole programs: a program is well typed where it breaks no typing rule. Else its first fault is that with
+-- the least byte place and, at one place, that of the rule that comes first. Own rule.
 use Rattle.std.specs.Prelude.{◌≡◌, List, [], ◌++◌, Option}
 use Rattle.std.specs.List.{flat_map}
 use Rattle.tri_base.specs.declared.point.Point.{Point}
@@ -10,6 +10,7 @@ use Rattle.st_tree.specs.Typing.Faults.{first_of}
 use Rattle.st_tree.specs.Typing.Declarations.{names_faults, block_faults}
 use Rattle.st_tree.specs.Typing.Statements.{Scope, statement_faults}
 
+-- its points and its tags
 abbrev pub scope_of : List Point → Tree → Scope
 scope_of points tree = record { points = points; tags = tags_of tree }
 

@@ -70,7 +70,8 @@ in_loop loops name = list_any (bytes_eq name) loops
 -- a tag of one word that is set, by an assignment or a loop
 abbrev pub setting_faults : List Point → Loops → PlacedName → Tag → List TypeFault
 setting_faults points loops n tag =
-    fault_if (is_input_tag points tag) n.place cause.NotAssignable ++ fault_if (in_loop loops n.name) n.place cause.LoopTag
+    fault_if (is_input_tag points tag) n.place cause.NotAssignable
+    ++ fault_if (in_loop loops n.name) n.place cause.LoopTag
 
 -- name := value
 abbrev pub plain_faults : List Point → List Tag → Loops → PlacedName → Expr → Tag → DeclaredType → List TypeFault
@@ -85,11 +86,13 @@ element_faults tags n index value (declared.Simple k) = wrong_faults n
 element_faults tags n index value (declared.Array low high k) = integer_faults tags index ++ value_faults tags k value
 element_faults tags n index value (declared.Block b) = wrong_faults n
 
+-- either, by the tag that the name means
 abbrev pub set_faults : List Point → List Tag → Loops → PlacedName → Option Expr → Expr → Option Tag → List TypeFault
 set_faults points tags loops n index value None = unknown_faults n
 set_faults points tags loops n None value (Some tag) = plain_faults points tags loops n value tag tag.declared
 set_faults points tags loops n (Some index) value (Some tag) = element_faults tags n index value tag.declared
 
+-- the rules that an assignment breaks
 abbrev pub assignment_faults : List Point → List Tag → Loops → Assignment → List TypeFault
 assignment_faults points tags loops a =
     set_faults points tags loops a.target a.index a.value (tag_named tags a.target.name)
@@ -112,6 +115,7 @@ inputs_faults tags b named (i ∷ inputs) =
     input_faults tags (list_any (bytes_eq i.name.name) named) i.name i.value (input_named b i.name.name)
     ++ inputs_faults tags b (named ++ i.name.name ∷ []) inputs
 
+-- the inputs of a call, if there are any
 abbrev pub inputs_in : Option Inputs → List Input
 inputs_in None = []
 inputs_in (Some inputs) = inputs_of inputs
@@ -122,6 +126,7 @@ called_faults tags n inputs (declared.Simple k) = wrong_faults n
 called_faults tags n inputs (declared.Array low high k) = wrong_faults n
 called_faults tags n inputs (declared.Block b) = inputs_faults tags b [] (inputs_in inputs)
 
+-- the rules that a call breaks, by the tag that the name means
 abbrev pub call_faults : List Tag → PlacedName → Option Inputs → Option Tag → List TypeFault
 call_faults tags n inputs None = unknown_faults n
 call_faults tags n inputs (Some tag) = called_faults tags n inputs tag.declared
@@ -165,7 +170,9 @@ counted_faults points loops n first last step tag (declared.Simple kind.Dint) =
 counted_faults points loops n first last step tag (declared.Array low high k) = wrong_faults n
 counted_faults points loops n first last step tag (declared.Block b) = wrong_faults n
 
-abbrev pub for_faults : List Point → Loops → PlacedName → Integer → Integer → Option Integer → Option Tag → List TypeFault
+-- the rules that FOR breaks outside its body, by the tag that the name means
+abbrev pub for_faults : List Point → Loops → PlacedName → Integer → Integer → Option Integer → Option Tag
+    → List TypeFault
 for_faults points loops n first last step None = unknown_faults n
 for_faults points loops n first last step (Some tag) = counted_faults points loops n first last step tag tag.declared
 
@@ -183,36 +190,42 @@ Checks = Loops → List TypeFault
 abbrev pub ElementChecks : Type 0
 ElementChecks = Option Kind → Loops → List TypeFault
 
+-- those of each of several statements or branches
 abbrev pub each_in : List Checks → Checks
 each_in checks loops = flat_map (λ (check : Checks). check loops) checks
 
--- the statements behind ELSE
+-- those of the statements behind ELSE
 abbrev pub otherwise_in : Option (List Checks) → Checks
 otherwise_in None loops = []
 otherwise_in (Some checks) loops = each_in checks loops
 
+-- those of each element, for a selector of this type
 abbrev pub elements_in : Option Kind → List ElementChecks → Checks
 elements_in selector elements loops = flat_map (λ (check : ElementChecks). check selector loops) elements
 
--- the selector of CASE is an integer; the tag of FOR is set by the loop alone
+-- The rules that each statement breaks, with those inside. The selector of CASE is an integer. Within the body of FOR
+-- its tag is one that a loop counts with.
 abbrev pub statement_checks : Scope → Statement-F Checks Checks ElementChecks → Checks
 statement_checks s Statement-F.Empty loops = []
 statement_checks s (Statement-F.Assignment a) loops = assignment_faults s.points s.tags loops a
-statement_checks s (Statement-F.BlockCall c) loops = call_faults s.tags c.block c.inputs (tag_named s.tags c.block.name)
+statement_checks s (Statement-F.BlockCall c) loops =
+    call_faults s.tags c.block c.inputs (tag_named s.tags c.block.name)
 statement_checks s (Statement-F.If first more others) loops =
     first loops ++ each_in more loops ++ otherwise_in others loops
 statement_checks s (Statement-F.Case selector first more others) loops =
     let found = as_integer (typing_of s.tags selector) in
-    faults_of found ++ first (type_in found) loops ++ elements_in (type_in found) more loops ++ otherwise_in others loops
+    faults_of found ++ first (type_in found) loops ++ elements_in (type_in found) more loops
+    ++ otherwise_in others loops
 statement_checks s (Statement-F.For tag first last step body) loops =
     for_faults s.points loops tag first last step (tag_named s.tags tag.name) ++ each_in body (loops ++ tag.name ∷ [])
 statement_checks s (Statement-F.Exit place) loops = exit_faults loops place
 statement_checks s Statement-F.Return loops = []
 
--- a condition is BOOL
+-- the rules that a branch of IF breaks; its condition is BOOL
 abbrev pub branch_checks : Scope → Expr → List Checks → Checks
 branch_checks s condition body loops = value_faults s.tags kind.Bool condition ++ each_in body loops
 
+-- the rules that an element breaks
 abbrev pub element_checks : Label → List Label → List Checks → ElementChecks
 element_checks first more body selector loops = labels_faults selector (listed first more) ++ each_in body loops
 
