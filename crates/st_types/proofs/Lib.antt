@@ -1,0 +1,13 @@
+pub mod Positions
+pub mod Named
+pub mod Placed
+pub mod Firsts
+pub mod Summing
+pub mod Chains
+pub mod FunctionCalls
+pub mod Kept
+pub mod Lists
+pub mod Parts
+pub mod Pushes
+pub mod Sound
+pub mod Inputs
