@@ -1,80 +1,88 @@
--- The tokens so far, and those of the text that is left.
-use Rattle.std.proofs.Common.{◌≡◌, ◌+◌, ◌-◌, ◌≤◌, ◌<◌, ℕ, zero, suc, List, [], ◌∷◌, ◌++◌, length, drop, Option, Some, None, Ok, Err, refl, ap, sym, ◌∙◌, append_assoc, append-nil, arith}
+-- The parts that were found so far.
+use Rattle.std.proofs.Common.{◌≡◌, ◌+◌, ◌≤◌, ℕ, List, [], ◌∷◌, ◌++◌, length, take, drop, Option, Ok, Err, refl, ap, sym, ◌∙◌, subst, append_assoc, append-nil, length-append, length-take, take-append-drop, drop-drop, arith}
 use Rattle.tri_base.specs.declared.faults.LexCause.{LexCause}
 use Rattle.st_tree.specs.declared.token.Token.{Token}
 use Rattle.st_tree.specs.declared.token.TokenKind.{TokenKind}
-use Rattle.st_tree.specs.Lexes.{Lexed, Item, item, item_and, behind, lexed_from, lexed}
+use Rattle.st_tree.specs.Lexes.{item, Part, bytes_of, AreItems, token_of, tokens_from, Lexes, IsLexicalFault}
 
-abbrev pub after_tokens : List Token → Lexed → Lexed
-after_tokens found (Ok tokens) = Ok (found ++ tokens)
-after_tokens found (Err fault) = Err fault
+-- the text up to a place is parts that are the items there
+pub record SoFar (text : List ℕ) (place : ℕ) (found : List Token) : Type 0 where
+  pub parts : List Part
+  pub whole : text ≡ bytes_of parts ++ drop place text
+  pub long : length (bytes_of parts) ≡ place
+  pub items : AreItems parts (drop place text)
+  pub tokens : found ≡ tokens_from 0 parts
 
--- bytes that belong to the item before are passed
-passed : (n place : ℕ) (bs : List ℕ) → n ≤ length bs → lexed_from place n bs ≡ lexed_from (place + n) 0 (drop n bs)
-unfolding lexed_from
-passed zero place bs h = let e : place ≡ place + 0 = omega arith in ap (λ p. lexed_from p 0 bs) e
-passed (suc n) place [] h = absurd (omega arith)
-passed (suc n) place (b ∷ bs) h = passed n (place + 1) bs (omega arith) ∙ (let e : place + 1 + n ≡ place + suc n = omega arith in ap (λ p. lexed_from p 0 (drop n bs)) e)
+-- ---- one part more
 
--- an item, and what follows it
-step : (place : ℕ) (text : List ℕ) (kind : Option TokenKind) (len : ℕ) → item text ≡ Ok (kind, len) → 1 ≤ len → len ≤ length text
-    → lexed_from place 0 text ≡ behind kind place (lexed_from (place + len) 0 (drop len text))
-unfolding lexed_from
-step place [] kind len e some within = absurd (omega arith)
-step place (b ∷ bs) kind zero e some within = absurd (omega arith)
-step place (b ∷ bs) kind (suc len) e some within =
-    ap (λ (i : Item). item_and place i (λ n. lexed_from (place + 1) (n - 1) bs)) e
-    ∙ ap (behind kind place) ((let m : suc len - 1 ≡ len = omega arith in ap (λ n. lexed_from (place + 1) n bs) m)
-    ∙ (passed len (place + 1) bs (omega arith) ∙ (let m : place + 1 + len ≡ place + suc len = omega arith in ap (λ p. lexed_from p 0 (drop len bs)) m)))
+bytes_with : (parts : List Part) (part : Part) (rest : List ℕ) → bytes_of (parts ++ part ∷ []) ++ rest ≡ bytes_of parts ++ (part.bytes ++ rest)
+bytes_with [] part rest = ap (λ bs. bs ++ rest) (append-nil part.bytes)
+bytes_with (q ∷ qs) part rest =
+    append_assoc q.bytes (bytes_of (qs ++ part ∷ [])) rest
+    ∙ (ap (λ bs. q.bytes ++ bs) (bytes_with qs part rest) ∙ sym (append_assoc q.bytes (bytes_of qs) (part.bytes ++ rest)))
 
-drop_none : (m : ℕ) → drop {A = ℕ} m [] ≡ []
-drop_none zero = refl
-drop_none (suc m) = refl
+long_with : (parts : List Part) (part : Part) → length (bytes_of (parts ++ part ∷ [])) ≡ length (bytes_of parts) + length part.bytes
+long_with [] part = ap length (append-nil part.bytes) ∙ omega arith
+long_with (q ∷ qs) part = omega (arith, length-append q.bytes (bytes_of (qs ++ part ∷ [])), length-append q.bytes (bytes_of qs), long_with qs part)
 
-drop_twice : (n m : ℕ) (bs : List ℕ) → drop m (drop n bs) ≡ drop (n + m) bs
-drop_twice zero m bs = let e : m ≡ 0 + m = omega arith in ap (λ k. drop k bs) e
-drop_twice (suc n) m [] = drop_none m ∙ (let e : suc (n + m) ≡ suc n + m = omega arith in ap (λ k. drop k []) e)
-drop_twice (suc n) m (b ∷ bs) = drop_twice n m bs ∙ (let e : suc (n + m) ≡ suc n + m = omega arith in ap (λ k. drop k (b ∷ bs)) e)
+items_with : (parts : List Part) (part : Part) (rest : List ℕ) → AreItems parts (part.bytes ++ rest) → 1 ≤ length part.bytes
+    → item (part.bytes ++ rest) ≡ Ok (part.token, length part.bytes) → AreItems (parts ++ part ∷ []) rest
+items_with [] part rest are some is = (some, is, tt)
+items_with (q ∷ qs) part rest are some is = (are.0, ap (λ bs. item (q.bytes ++ bs)) (bytes_with qs part rest) ∙ are.1, items_with qs part rest are.2 some is)
 
-joined : (found : List Token) (token : Token) (more : Lexed) → after_tokens found (after_tokens (token ∷ []) more) ≡ after_tokens (found ++ token ∷ []) more
-joined found token (Ok tokens) = ap (λ l. Ok l) (sym (append_assoc found (token ∷ []) tokens))
-joined found token (Err fault) = refl
+tokens_with : (place : ℕ) (parts : List Part) (part : Part) → tokens_from place (parts ++ part ∷ []) ≡ tokens_from place parts ++ token_of (place + length (bytes_of parts)) part.token
+tokens_with place [] part = append-nil (token_of place part.token) ∙ (let e : place ≡ place + 0 = omega arith in ap (λ n. token_of n part.token) e)
+tokens_with place (q ∷ qs) part =
+    let e : place + length q.bytes + length (bytes_of qs) ≡ place + length (q.bytes ++ bytes_of qs) = omega (arith, length-append q.bytes (bytes_of qs)) in
+    ap (λ ts. token_of place q.token ++ ts) (tokens_with (place + length q.bytes) qs part ∙ ap (λ n. tokens_from (place + length q.bytes) qs ++ token_of n part.token) e)
+    ∙ sym (append_assoc (token_of place q.token) (tokens_from (place + length q.bytes) qs) (token_of (place + length (q.bytes ++ bytes_of qs)) part.token))
 
-behind_some : (kind : TokenKind) (place : ℕ) (more : Lexed) → behind (Some kind) place more ≡ after_tokens (record { kind = kind; place = place } ∷ []) more
-behind_some kind place (Ok tokens) = refl
-behind_some kind place (Err fault) = refl
+-- an item at the place
+pub goes_on : (text : List ℕ) (place : ℕ) (found : List Token) (kind : Option TokenKind) (len : ℕ) → SoFar text place found → item (drop place text) ≡ Ok (kind, len) → 1 ≤ len
+    → len ≤ length (drop place text) → SoFar text (place + len) (found ++ token_of place kind)
+goes_on text place found kind len so is some within =
+    let left = drop place text in
+    let part : Part = record { bytes = take len left; token = kind } in
+    let rest = drop (place + len) text in
+    let seam : left ≡ part.bytes ++ rest = sym (take-append-drop len left) ∙ ap (λ bs. take len left ++ bs) (drop-drop len place text) in
+    let at : place ≡ 0 + length (bytes_of so.parts) = omega (arith, so.long) in
+    let long : length part.bytes ≡ len = omega (arith, length-take len left, within) in
+    record {
+      parts = so.parts ++ part ∷ [];
+      whole = so.whole ∙ (ap (λ bs. bytes_of so.parts ++ bs) seam ∙ sym (bytes_with so.parts part rest));
+      long = omega (arith, long_with so.parts part, so.long, long);
+      items = items_with so.parts part rest (subst (AreItems so.parts) seam so.items) (omega (arith, long, some)) (ap item (sym seam) ∙ (is ∙ ap (λ n. Ok (kind, n)) (sym long)));
+      tokens =
+          ap (λ ts. ts ++ token_of place kind) so.tokens
+          ∙ (ap (λ n. tokens_from 0 so.parts ++ token_of n kind) at ∙ sym (tokens_with 0 so.parts part));
+    }
 
--- white space or a comment
-pub passes : (found : List Token) (place : ℕ) (text : List ℕ) (len : ℕ) → item (drop place text) ≡ Ok (None, len) → 1 ≤ len → len ≤ length (drop place text)
-    → after_tokens found (lexed_from place 0 (drop place text)) ≡ after_tokens found (lexed_from (place + len) 0 (drop (place + len) text))
-passes found place text len e some within =
-    ap (after_tokens found) (step place (drop place text) None len e some within ∙ ap (lexed_from (place + len) 0) (drop_twice place len text))
+-- ---- the start and the end
 
--- a token
-pub takes : (found : List Token) (place : ℕ) (text : List ℕ) (kind : TokenKind) (len : ℕ) → item (drop place text) ≡ Ok (Some kind, len) → 1 ≤ len → len ≤ length (drop place text)
-    → after_tokens found (lexed_from place 0 (drop place text)) ≡ after_tokens (found ++ record { kind = kind; place = place } ∷ []) (lexed_from (place + len) 0 (drop (place + len) text))
-takes found place text kind len e some within =
-    ap (after_tokens found) (step place (drop place text) (Some kind) len e some within ∙ behind_some kind place (lexed_from (place + len) 0 (drop len (drop place text))))
-    ∙ (joined found (record { kind = kind; place = place }) (lexed_from (place + len) 0 (drop len (drop place text)))
-    ∙ ap (λ rest. after_tokens (found ++ record { kind = kind; place = place } ∷ []) (lexed_from (place + len) 0 rest)) (drop_twice place len text))
+pub begins : (text : List ℕ) (found : List Token) → found ≡ [] → SoFar text 0 found
+begins text found none = record { parts = []; whole = refl; long = refl; items = tt; tokens = none }
 
--- no item
-pub refuses : (found : List Token) (place : ℕ) (text : List ℕ) (cause : LexCause) → 0 < length text → item text ≡ Err cause → after_tokens found (lexed_from place 0 text) ≡ Err (place, cause)
-unfolding lexed_from
-refuses found place [] cause some e = absurd (omega arith)
-refuses found place (b ∷ bs) cause some e = ap (λ (i : Item). after_tokens found (item_and place i (λ n. lexed_from (place + 1) (n - 1) bs))) e
+none_left : (bs : List ℕ) → length bs ≡ 0 → bs ≡ []
+none_left [] e = refl
+none_left (b ∷ bs) e = absurd (omega arith)
 
--- the end
-pub ends : (found : List Token) (place : ℕ) (text : List ℕ) → length text ≡ 0 → after_tokens found (lexed_from place 0 text) ≡ Ok found
-unfolding lexed_from
-ends found place [] e = ap (λ l. Ok l) (append-nil found)
-ends found place (b ∷ bs) e = absurd (omega arith)
+pub ends : (text : List ℕ) (place : ℕ) (found : List Token) → SoFar text place found → length (drop place text) ≡ 0 → Lexes text found
+ends text place found so none =
+    let e = none_left (drop place text) none in
+    record {
+      parts = so.parts;
+      whole = so.whole ∙ (ap (λ bs. bytes_of so.parts ++ bs) e ∙ append-nil (bytes_of so.parts));
+      items = subst (AreItems so.parts) e so.items;
+      are_tokens = so.tokens;
+    }
 
-after_none : (r : Lexed) → after_tokens [] r ≡ r
-after_none (Ok tokens) = refl
-after_none (Err fault) = refl
-
--- the start
-pub begins : (found : List Token) (text : List ℕ) → found ≡ [] → after_tokens found (lexed_from 0 0 text) ≡ lexed text
-unfolding lexed
-begins found text e = ap (λ l. after_tokens l (lexed_from 0 0 text)) e ∙ after_none (lexed_from 0 0 text)
+pub refuses : (text : List ℕ) (place : ℕ) (found : List Token) (cause : LexCause) → SoFar text place found → 1 ≤ length (drop place text) → item (drop place text) ≡ Err cause → IsLexicalFault text place cause
+refuses text place found cause so some is = record {
+  parts = so.parts;
+  rest = drop place text;
+  whole = so.whole;
+  items = so.items;
+  some = some;
+  no_item = is;
+  at = sym so.long;
+}

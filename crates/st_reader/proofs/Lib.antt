@@ -1,3 +1,4 @@
 pub mod Lexing
+pub mod Once
 pub mod Fronts
 pub mod Worked

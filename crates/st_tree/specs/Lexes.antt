@@ -1,10 +1,10 @@
 -- The tokens of a text, and the first byte at which none begins (IEC 61131-3:2013, 6.1).
 -- Own rule: white space is these four bytes alone, comments don't nest, a name has at most 32 bytes, a number takes all
 -- letters, digits, underscores and `#` behind it, and `..` is one symbol.
-use Rattle.std.specs.Prelude.{◌≡◌, ℕ, suc, zero, ◌+◌, ◌-◌, ◌==◌, nat_lt, Bool, ◌||◌, if◌then◌else◌}
-use Rattle.std.specs.Prelude.{List, [], ◌∷◌, length, map, take, drop, slice_index, codes, Option, Some, None, Result, Ok, Err}
+use Rattle.std.specs.Prelude.{◌≡◌, ◌≤◌, ℕ, ◌+◌, ◌==◌, nat_lt, Bool, ◌||◌, if◌then◌else◌}
+use Rattle.std.specs.Prelude.{List, [], ◌∷◌, ◌++◌, length, map, take, drop, slice_index, codes, Option, Some, None, Result, Ok, Err}
 use Rattle.std.specs.Option.{option_map}
-use Rattle.std.specs.List.{prefix_len}
+use Rattle.std.specs.List.{prefix_len, flat_map}
 use Rattle.std.specs.Char.{is_ascii_digit, to_ascii_uppercase}
 use Rattle.tri_base.specs.Bytes.{space, tab, carriage_return, line_feed, number_sign}
 use Rattle.tri_base.specs.Names.{is_word_byte, name_limit}
@@ -83,35 +83,48 @@ item text =
     else (if is_word_byte first then word_item (front is_word_byte text)
     else symbol_item (symbol_of text))))
 
--- tokens from a byte place on, or the first faulty byte with its cause
-abbrev pub Lexed : Type 0
-Lexed = Result (List Token) (ℕ × LexCause)
+-- ---- a text is parts in a row
 
--- a token before others, or none where the item is white space or a comment
-abbrev pub behind : Option TokenKind → ℕ → Lexed → Lexed
-behind None place more = more
-behind (Some kind) place (Ok tokens) = Ok (token_at kind place ∷ tokens)
-behind (Some kind) place (Err fault) = Err fault
+-- A part of a text: its bytes, and the token that they are; None where they are white space or a comment.
+pub record Part : Type 0 where
+  pub bytes : List ℕ
+  pub token : Option TokenKind
 
--- an item, and what the text behind it gives
-abbrev pub item_and : ℕ → Item → (ℕ → Lexed) → Lexed
-item_and place (Ok begun) more = behind begun.0 place (more begun.1)
-item_and place (Err cause) more = Err (place, cause)
+-- the bytes of parts in a row
+abbrev pub bytes_of : List Part → List ℕ
+bytes_of parts = flat_map (λ part. part.bytes) parts
 
--- The text goes on at this byte place, and its first bytes, so many, belong to the item before.
-unfoldable pub lexed_from : ℕ → ℕ → List ℕ → Lexed
-lexed_from place left [] = Ok []
-lexed_from place (suc left) (b ∷ bs) = lexed_from (place + 1) left bs
-lexed_from place zero (b ∷ bs) = item_and place (item (b ∷ bs)) (λ len. lexed_from (place + 1) (len - 1) bs)
+-- Each part is the item at its place, where the text ends with `rest` behind them all.
+abbrev pub AreItems : List Part → List ℕ → Type 0
+AreItems [] rest = Unit {0}
+AreItems (part ∷ parts) rest =
+    (1 ≤ length part.bytes)
+    × (item (part.bytes ++ (bytes_of parts ++ rest)) ≡ Ok (part.token, length part.bytes))
+    × AreItems parts rest
 
--- the tokens of a text, from its first byte on
-unfoldable pub lexed : List ℕ → Lexed
-lexed = lexed_from 0 0
+-- the token of a part that begins at this byte place, if it is one
+abbrev pub token_of : ℕ → Option TokenKind → List Token
+token_of place None = []
+token_of place (Some kind) = token_at kind place ∷ []
 
--- the text spells these tokens
-abbrev pub Lexes : List ℕ → List Token → Type 0
-Lexes text tokens = lexed text ≡ Ok tokens
+-- the tokens among parts of which the first begins at this byte place
+abbrev pub tokens_from : ℕ → List Part → List Token
+tokens_from place [] = []
+tokens_from place (part ∷ parts) = token_of place part.token ++ tokens_from (place + length part.bytes) parts
 
--- this is the first faulty byte of the text, with its cause
-abbrev pub IsLexicalFault : List ℕ → ℕ → LexCause → Type 0
-IsLexicalFault text place cause = lexed text ≡ Err (place, cause)
+-- the text spells these tokens: it is items in a row
+pub record Lexes (text : List ℕ) (tokens : List Token) : Type 0 where
+  pub parts : List Part
+  pub whole : text ≡ bytes_of parts
+  pub items : AreItems parts []
+  pub are_tokens : tokens ≡ tokens_from 0 parts
+
+-- This is the first faulty byte of the text, with its cause: it is items in a row, and then a rest at which none begins.
+pub record IsLexicalFault (text : List ℕ) (place : ℕ) (cause : LexCause) : Type 0 where
+  pub parts : List Part
+  pub rest : List ℕ
+  pub whole : text ≡ bytes_of parts ++ rest
+  pub items : AreItems parts rest
+  pub some : 1 ≤ length rest
+  pub no_item : item rest ≡ Err cause
+  pub at : place ≡ length (bytes_of parts)

@@ -1,11 +1,10 @@
-use Rattle.std.proofs.Common.{◌≡◌, ◌-◌, ◌≤◌, length, drop}
-use Rattle.st_tree.specs.Lexes.{lexed, lexed_from}
-use Rattle.st_reader.proofs.Lexing.{after_tokens}
+use Rattle.std.proofs.Common.{◌-◌, ◌≤◌, length}
+use Rattle.st_reader.proofs.Lexing.{SoFar}
 use Rattle.st_reader.proofs.lexer.lex.Given as goal
 
 abbrev pub invariant-loop-place : goal.invariant-loop-place
 invariant-loop-place l = record {
-  rest : after_tokens l.tokens (lexed_from l.place 0 (drop l.place l.bytes)) ≡ lexed l.bytes;
+  so_far : SoFar l.bytes l.place l.tokens;
   within : l.place ≤ length l.bytes;
 }
 
