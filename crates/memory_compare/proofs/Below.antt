@@ -1,11 +1,11 @@
 -- Each place that changed is one of the pairs.
-use Rattle.std.proofs.Common.{◌≡◌, ℕ, ◌+◌, ◌<◌, ◌≤◌, ℤ, Bool, true, false, not, nat_lt, if◌then◌else◌, Option, Some, None, is_some, unwrap_or, List, [], ◌∷◌, length, refl, sym, ◌∙◌, subst, arith, ◌==◌}
+use Rattle.std.proofs.Common.{◌≡◌, ℕ, ◌+◌, ◌≤◌, ℤ, Bool, true, false, not, nat_lt, if◌then◌else◌, Option, Some, None, is_some, unwrap_or, List, [], ◌∷◌, length, refl, arith, ◌==◌}
 use Rattle.std.specs.Ordering.{int_eq}
 use Rattle.std.proofs.lemmas.Bool.Decides.{nat_tests, Decides-int_eq}
 use Rattle.std.proofs.lemmas.Bool.{eqb-true}
-use Rattle.tri_base.specs.Noted.{number_before, restored_from, restored}
-use Rattle.memory_compare.specs.Changes.{changes_from, changes_of}
-use Rattle.memory_compare.specs.Inner.OneChange.{change_at, noted_below}
+use Rattle.tri_base.specs.Noted.{number_before, restored}
+use Rattle.memory_compare.specs.Changes.{changes_of}
+use Rattle.memory_compare.specs.Inner.OneChange.{noted_below}
 use Rattle.memory_compare.proofs.Steps.{noted_changes}
 
 pub below_most : (k : ℕ) (pairs : List (ℕ × ℤ)) → noted_below k pairs ≤ length pairs

@@ -1,5 +1,5 @@
 -- What a running leg makes of its own result and its neighbours'. Own rule.
-use Rattle.std.specs.Prelude.{ℤ, Bool, true, false, ◌&&◌, List, Option, Some, None, is_some}
+use Rattle.std.specs.Prelude.{ℤ, Bool, true, false, ◌&&◌, List, Some, None, is_some}
 use lib.Pointwise.{pointwise}
 use Rattle.std.specs.Ordering.{int_eq}
 use Rattle.tri_base.specs.declared.leg.Side.TheVariants.{Left, Right}
