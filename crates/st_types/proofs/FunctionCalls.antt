@@ -22,7 +22,7 @@ use Rattle.st_tree.specs.Typing.Functions as function_of
 use Rattle.st_tree.specs.Typing.Names as named
 use Rattle.st_tree.specs.Typing.Operands as operand
 use Rattle.st_tree.specs.Typing.Operands.{Outcome, Faulty, Typed, Free, Typing, found, faults_of, faults_in, once_sound, Alike}
-use Rattle.st_tree.specs.Typing.Functions.{called, of_arguments}
+use Rattle.st_tree.specs.Typing.Functions.{called}
 
 -- an argument more
 pub faults_more : (ts : List Typing) (t : Typing) → first_of (faults_in (ts ++ t ∷ [])) ≡ soonest (first_of (faults_in ts)) (fault_of (finding_of t.outcome))

@@ -1,5 +1,5 @@
 -- What the checker keeps of a rule's outcome is what the rule gives of what it keeps of the parts.
-use Rattle.std.proofs.Common.{◌≡◌, ℕ, Bool, true, false, List, [], ◌∷◌, ◌++◌, Some, None, map, refl, ap, ◌∙◌, append-nil}
+use Rattle.std.proofs.Common.{◌≡◌, ℕ, Bool, true, false, List, [], ◌∷◌, ◌++◌, Some, None, refl, ap, ◌∙◌, append-nil}
 use Rattle.std.specs.Prelude.{if◌then◌else◌}
 use Rattle.std.proofs.lemmas.List.Concat.{flat_map-append}
 use Rattle.tri_base.specs.declared.faults.TypeFault.{TypeFault}
@@ -9,7 +9,7 @@ use Rattle.st_types.specs.declared.join.Joint.TheVariants as joint
 use Rattle.st_types.specs.declared.finding.Finding.TheVariants as finding
 use Rattle.st_types.specs.Inner.Summaries.{misfits_of, finding_of, checked_of, joint_of, fault_of, fault_of_two, unless, asked, as_integer, merged, literal, joined, settled, start, integer_of_one, integers, when_sound, booleans, alike, compared, primary_of, unsigned, negated}
 use Rattle.st_types.proofs.Firsts.{first_of_append}
-use Rattle.st_tree.specs.Typing.Faults.{fault, first_of}
+use Rattle.st_tree.specs.Typing.Faults.{first_of}
 use Rattle.st_types.specs.Inner.Firsts.{soonest}
 use Rattle.st_tree.specs.Typing.Expressions as expression
 use Rattle.st_tree.specs.Typing.Operands as operand

@@ -24,7 +24,7 @@ use Rattle.st_types.specs.Inner.Firsts.{soonest}
 use Rattle.st_tree.specs.Typing.Expressions as expression
 use Rattle.st_tree.specs.Typing.Names as named
 use Rattle.st_tree.specs.Typing.Operands as operand
-use Rattle.st_tree.specs.Typing.Operands.{Typing, found, chain, both_bool, both_integer, compared_alike, compared_integers, faults_in}
+use Rattle.st_tree.specs.Typing.Operands.{Typing, chain, both_bool, both_integer, compared_alike, compared_integers}
 use Rattle.st_tree.specs.Typing.Expressions.{PrimaryTyping, expression_types}
 use Rattle.st_tree.specs.Typing.Functions.{called}
 use Rattle.st_tree.specs.Tags.{tag_named}
