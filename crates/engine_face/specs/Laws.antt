@@ -42,7 +42,8 @@ pub record IsMeaning (points : List Point) (m : Meaning) : Type 0 where
   pub first_count : (text : List ℕ) → m.builds text ≡ None → length (m.first text) ≡ m.word_count text
   pub carried_count : (old : List ℕ) (d : Download) (words : List ℤ) → m.builds old ≡ None → m.builds d.text ≡ None
       → NamesKnown m old d → length words ≡ m.word_count old → length (m.carried old d words) ≡ m.word_count d.text
-  -- a scan of as many words and inputs as the program has, in a time of at most ten seconds, is one
+  -- a scan of as many words as the program has, over one value for each input point, in a time of at most ten
+  -- seconds, is one
   pub scan : (text : List ℕ) (words inputs : List ℤ) (dt : ℤ) → m.builds text ≡ None
       → length words ≡ m.word_count text → length inputs ≡ length (inputs_of points)
       → pos 0 ≤ℤ dt → dt ≤ℤ scan_time_limit

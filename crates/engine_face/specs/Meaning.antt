@@ -5,7 +5,8 @@ use Rattle.tri_base.specs.Downloads.{Download}
 use Rattle.engine_face.specs.declared.refusal.Refusal.{Refusal}
 use Rattle.engine_face.specs.declared.refusal.Refusal.TheVariants.{RenameUnknown, RenameTwice, KindChanged}
 
--- What a scan leaves: the words, the values of the output points, and whether some arithmetic was clamped.
+-- What a scan leaves: the words, the values of the output points, and the flag ARITH: whether a computed number or an
+-- index was clamped, or a divisor was 0.
 pub record Scanned : Type 0 where
   pub words : List ℤ
   pub outputs : List ℤ
@@ -15,9 +16,10 @@ pub record Scanned : Type 0 where
 pub record Meaning : Type 0 where
   -- why a text is no program, or none
   pub builds : List ℕ → Option Refusal
-  -- the first name of a download's renames that isn't a tag of its program, by the old text
+  -- of the first rename whose old name is no tag of the old program, or whose new name is none of the new one, that
+  -- name; the old one first
   pub unknown_name : List ℕ → Download → Option (List ℕ)
-  -- the first name of a download's renames that an earlier one has in its place
+  -- the first old or new name of a rename that an earlier rename has in the same place
   pub name_twice : List ℕ → Download → Option (List ℕ)
   -- the first tag of the old text that the download declares, under its new name, with another type
   pub changed_kind : List ℕ → Download → Option (List ℕ)

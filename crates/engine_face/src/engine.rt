@@ -88,8 +88,8 @@ pub trait Engine: Drop {
 
     /// One scan: from one value for each input point and a scan time in milliseconds, the words
     /// that are left, one value for each output point in its range, the stores that were made and
-    /// whether some arithmetic was clamped. It empties `outputs` and `touched` first and takes no
-    /// memory.
+    /// the flag ARITH: whether a computed number or an index was clamped, or a divisor was 0. It
+    /// empties `outputs` and `touched` first and takes no memory.
     fn scan(
         &self,
         program: &Self::Program,

@@ -9,7 +9,7 @@ use Rattle.fault_history.specs.declared.note.Ending.{Ending}
 use Rattle.fault_history.specs.declared.note.Ending.TheVariants.{Run, Learn}
 
 -- What a note tells: the verdict on a download, the voted scan time and values, the judgement, what is driven,
--- whether arithmetic was clamped, and whether a reading is marked.
+-- the flag ARITH of its run, and whether a reading is marked.
 pub record NoteData : Type 0 where
   pub verdict : Option Verdict
   pub time : ℤ

@@ -15,7 +15,7 @@ pub struct Alarms {
     pub input: bool,
     /// A leg drives other values than the outputs have, or none.
     pub output: bool,
-    /// At least two legs had to clamp a result of arithmetic.
+    /// At least two legs' runs clamped a computed number or an index, or divided by 0.
     pub arith: bool,
 }
 

@@ -47,7 +47,7 @@ impl History {
     }
 
     /// Adds what a leg was judged where it tells of a fault or of its end; else nothing changes.
-    /// The oldest entry gives way. It takes no memory.
+    /// The oldest of 64 entries is dropped for it. It takes no memory.
     pub fn note(&mut self, scan: u32, leg: Leg, judged: Judged)
         ensures { let entry : Entry = record { scan = scan; leg = leg; judged = judged } in
             self.new ≡ noted_entry self.old entry }

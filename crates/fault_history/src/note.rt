@@ -14,7 +14,7 @@ pub struct Note {
     /// The words that it drives the output points with, as the script's fault lines have them: no
     /// words where a line mutes it. None where it drives none and no line says otherwise.
     pub drive: Option<Words>,
-    /// Some arithmetic of its run was clamped; FALSE where it ran no scan.
+    /// Its run clamped a computed number or an index, or divided by 0; FALSE where it ran no scan.
     pub arith: bool,
     /// Its table of disagreements has a mark after the vote.
     pub marked: bool,

@@ -151,3 +151,24 @@ fn the_fifth_disagreement_in_a_row_is_a_mark_that_stays(rt: HostRuntime) -> Resu
     }
     Ok(())
 }
+
+#[test]
+fn a_chassis_of_256_inputs_has_a_table_of_marks(rt: HostRuntime) -> Result<(), Fail> {
+    let alloc = rt.alloc();
+    let mut chassis = Chassis::new(alloc);
+    for first in b'A'..=b'P' {
+        for second in b'A'..=b'P' {
+            chassis.add(Point {
+                name: Name::read(&[first, second]).ok_or("name")?,
+                kind: PointKind::Di,
+                low: 0,
+                high: 1,
+                tolerance: 0,
+            })?;
+        }
+    }
+    assert_eq!(rt; chassis.points().len(), 256);
+    let marks = Discrepancy::new(alloc, &chassis)?;
+    assert!(rt; !marks.has_mark());
+    Ok(())
+}

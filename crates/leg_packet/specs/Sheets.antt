@@ -31,13 +31,15 @@ spelled s = pos 2 ∷ pos s.epoch ∷ pos s.turn ∷ pos s.text_length ∷ pos s
 abbrev pub packet_limit : ℕ
 packet_limit = 8518
 
--- How many downloads are counted, and how many bytes a program's text has at most, and words its memory.
+-- How many downloads are counted.
 abbrev pub epoch_limit : ℕ
 epoch_limit = 10 ^ 18
 
+-- How many bytes the text of a program has at most.
 abbrev pub text_limit : ℕ
 text_limit = 16384
 
+-- How many words the memory of a program has at most.
 abbrev pub word_limit : ℕ
 word_limit = 4096
 
@@ -72,6 +74,30 @@ pub record IsCanonical (s : Sheet) : Type 0 where
   -- the places of the window that are text
   pub bytes : All IsByte (take (s.text_length - 64 * s.turn) s.window)
   pub pairs : Rise 0 s.word_length s.pairs
+
+-- Out-sheets, which hold their numbers as lists with room.
+
+-- Each address followed by its number.
+abbrev pub paired : List ℤ → List ℤ → List ℤ
+paired [] values = []
+paired (address ∷ addresses) [] = []
+paired (address ∷ addresses) (value ∷ values) = address ∷ value ∷ paired addresses values
+
+-- The fields of an out-sheet as words.
+abbrev pub spelled_out : OutSheet → List ℤ
+spelled_out o = pos 2 ∷ o.epoch ∷ o.turn ∷ o.text_length ∷ o.word_length ∷
+    (o.window.list ++ (pos (length o.addresses.list) ∷ (paired o.addresses.list o.values.list ++ o.outputs.list)))
+
+-- An out-sheet that has the fields of a sheet.
+pub record Has (o : OutSheet) (s : Sheet) : Type 0 where
+  pub epoch : o.epoch ≡ pos s.epoch
+  pub turn : o.turn ≡ pos s.turn
+  pub text_length : o.text_length ≡ pos s.text_length
+  pub word_length : o.word_length ≡ pos s.word_length
+  pub window : o.window.list ≡ s.window
+  pub addresses : o.addresses.list ≡ map (λ (pair : ℕ × ℤ). pos pair.0) s.pairs
+  pub values : o.values.list ≡ map (λ (pair : ℕ × ℤ). pair.1) s.pairs
+  pub outputs : o.outputs.list ≡ s.outputs
 
 -- The rest reads packets. The laws reads_what_is_spelled and spells_what_is_read say that sheet_of gives just the
 -- canonical sheet that a packet spells, so nobody has to believe how.
@@ -132,27 +158,3 @@ sheet_of (kind ∷ epoch ∷ turn ∷ text_length ∷ word_length ∷ words) =
     && is_from_to word_length word_limit && int_le (pos 0) turn
     then sheet_behind (nat_abs epoch) (nat_abs turn) (nat_abs text_length) (nat_abs word_length) words else None
 sheet_of _ = None
-
--- Out-sheets, which hold their numbers as lists with room.
-
--- Each address followed by its number.
-abbrev pub paired : List ℤ → List ℤ → List ℤ
-paired [] values = []
-paired (address ∷ addresses) [] = []
-paired (address ∷ addresses) (value ∷ values) = address ∷ value ∷ paired addresses values
-
--- The fields of an out-sheet as words.
-abbrev pub spelled_out : OutSheet → List ℤ
-spelled_out o = pos 2 ∷ o.epoch ∷ o.turn ∷ o.text_length ∷ o.word_length ∷
-    (o.window.list ++ (pos (length o.addresses.list) ∷ (paired o.addresses.list o.values.list ++ o.outputs.list)))
-
--- An out-sheet that has the fields of a sheet.
-pub record Has (o : OutSheet) (s : Sheet) : Type 0 where
-  pub epoch : o.epoch ≡ pos s.epoch
-  pub turn : o.turn ≡ pos s.turn
-  pub text_length : o.text_length ≡ pos s.text_length
-  pub word_length : o.word_length ≡ pos s.word_length
-  pub window : o.window.list ≡ s.window
-  pub addresses : o.addresses.list ≡ map (λ (pair : ℕ × ℤ). pos pair.0) s.pairs
-  pub values : o.values.list ≡ map (λ (pair : ℕ × ℤ). pair.1) s.pairs
-  pub outputs : o.outputs.list ≡ s.outputs

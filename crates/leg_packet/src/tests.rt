@@ -4,7 +4,7 @@ use crate::{OutSheet, Packet, read_in, read_out, write_in, write_learning, write
 use chassis::Chassis;
 use std::alloc::Global;
 use std::test::Fail;
-use tri_base::{Name, NoMemory, Point, PointKind, Words};
+use tri_base::{Name, NoMemory, Point, PointKind, Words, push_word};
 
 fn words_of(alloc: Global, items: &[i64]) -> Result<Words, NoMemory>
     ensures { IfOk result (λ words. words.list ≡ items.now) }
@@ -67,7 +67,7 @@ fn a_running_result_is_written_and_read(rt: HostRuntime) -> Result<(), Fail> {
 }
 
 #[test]
-fn a_packet_that_lies_is_no_running_result(rt: HostRuntime) -> Result<(), Fail> {
+fn a_packet_with_a_wrong_number_is_no_running_result(rt: HostRuntime) -> Result<(), Fail> {
     let mut packet = Packet::blank(rt.alloc())?;
     // epoch, turn, the two lengths, a byte and two words, one change, one output
     let genuine = [2, 0, 0, 1, 2, 65, 10, 11, 1, 1, 99, 5];
@@ -137,6 +137,22 @@ fn readings_are_written_and_read(rt: HostRuntime) -> Result<(), Fail> {
     ] {
         write_in(&mut packet, dt, &words_of(rt.alloc(), &[0, level])?);
         assert_eq!(rt; read_in(&packet, &chassis).is_some(), reads, "{dt} {level}");
+    }
+    Ok(())
+}
+
+#[test]
+fn a_packet_takes_more_words_than_a_leg_makes(rt: HostRuntime) -> Result<(), Fail> {
+    let mut packet = Packet::blank(rt.alloc())?;
+    for count in [8_518, 8_519, 20_000] {
+        let mut words = Words::new(rt.alloc());
+        words.reserve(count)?;
+        for _word in 0..count {
+            push_word(&mut words, -7)?;
+        }
+        packet.write_words(&words)?;
+        assert_eq!(rt; packet.words().len(), count);
+        assert_eq!(rt; packet.words()[count - 1], -7);
     }
     Ok(())
 }
