@@ -1,0 +1,4 @@
+pub mod Inner
+pub mod Learned
+pub mod Learning
+pub mod Lessons

@@ -1,0 +1,14 @@
+//! What holds of all packets that are learned from.
+
+ghost use Rattle.std.specs.Prelude.{◌≤◌, ◌+◌, ℤ, List};
+ghost use Rattle.leg_packet.specs.Sheets.{text_limit, word_limit};
+ghost use Rattle.re_education.specs.Lessons.{size_shown};
+
+use leg_packet::laws::spells_what_is_read;
+
+/// No packet shows a memory of more than 20,480 words, text and words together.
+pub fn sizes_are_small()
+    ensures { (p : List ℤ) → size_shown p ≤ text_limit + word_limit }
+{
+    spells_what_is_read();
+}
