@@ -3,9 +3,8 @@ use Rattle.std.proofs.Common.{◌≡◌, ◌≤◌, ◌⊎◌, inl, inr, ℕ, Li
 use Rattle.std.proofs.Math.Seq.{take-append_seam, drop-append_seam}
 use Rattle.tri_base.specs.declared.faults.LexCause.{LexCause}
 use Rattle.tri_base.specs.declared.faults.LexCause.TheVariants.{BadByte}
-use Rattle.st_tree.specs.declared.token.Token.{Token}
 use Rattle.st_tree.specs.declared.token.TokenKind.{TokenKind}
-use Rattle.st_tree.specs.Lexes.{Item, item, Part, bytes_of, AreItems, tokens_from, Lexes, IsLexicalFault}
+use Rattle.st_tree.specs.Lexes.{Item, item, Part, bytes_of, AreItems, tokens_from, IsLexicalFault}
 use Rattle.st_reader.specs.LexLaws.{OneLexing}
 
 -- ---- what an item is
