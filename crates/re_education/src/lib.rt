@@ -13,6 +13,3 @@ mod teaching;
 
 pub use learner::Learner;
 pub use progress::{Image, Progress};
-
-#[cfg(test)]
-mod tests;
