@@ -4,13 +4,7 @@ use Rattle.std.specs.Ordering.{int_eq}
 use Rattle.tri_base.specs.declared.point.Point.{Point}
 use Rattle.tri_base.specs.declared.point.PointKind.{PointKind}
 use Rattle.tri_base.specs.declared.point.PointKind.TheVariants.{Di, Ai, Do, Ao}
-
--- An analogue count has 16 bits.
-abbrev pub least_count : ℤ
-least_count = negsuc 32767
-
-abbrev pub greatest_count : ℤ
-greatest_count = pos 32767
+use Rattle.tri_base.specs.Limits.{greatest_count, least_count}
 
 -- No two counts lie further apart.
 abbrev pub greatest_tolerance : ℤ

@@ -1,7 +1,7 @@
 ghost use Rattle.std.specs.Prelude.{◌≡◌, ◌↔◌, IsTrue};
 ghost use Rattle.chassis.specs.Ranges.{Fits, fits_range};
 
-use tri_base::{Point, PointKind};
+use tri_base::{GREATEST_COUNT, LEAST_COUNT, Point, PointKind};
 
 /// Whether a point's range and tolerance are those that its kind may have.
 pub fn fits(point: &Point) -> bool
@@ -13,10 +13,10 @@ pub fn fits(point: &Point) -> bool
             point.low == 0 && point.high == 1 && point.tolerance == 0
         }
         PointKind::Ai | PointKind::Ao => {
-            -32_768 <= point.low
+            LEAST_COUNT <= point.low
                 && point.low <= 0
                 && 0 <= point.high
-                && point.high <= 32_767
+                && point.high <= GREATEST_COUNT
                 && 0 <= point.tolerance
                 && point.tolerance <= 65_535
         }

@@ -6,17 +6,13 @@ use Rattle.tri_base.specs.declared.point.Point.{Point}
 use Rattle.chassis.specs.Points.{outputs_of}
 use Rattle.engine_face.specs.declared.refusal.Refusal.{Refusal}
 use Rattle.engine_face.specs.declared.refusal.Refusal.TheVariants.{TooLarge, Syntax}
-use Rattle.engine_face.specs.Limits.{text_limit}
 use Rattle.engine_face.specs.Meaning.{Meaning}
+use Rattle.tri_base.specs.Limits.{greatest_count, text_limit}
 
 -- An empty text ends before its first token, and one that is too long is no program either.
 abbrev pub counting_refusal : List ℕ → Option Refusal
 counting_refusal [] = Some (Syntax 0)
 counting_refusal (b ∷ bs) = if nat_le (length (b ∷ bs)) text_limit then None else Some TooLarge
-
--- A count stops there.
-abbrev pub greatest_count : ℤ
-greatest_count = pos 32767
 
 -- One scan more, up to the greatest count.
 abbrev pub counted : List ℤ → List ℤ

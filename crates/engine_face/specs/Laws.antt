@@ -7,8 +7,8 @@ use Rattle.tri_base.specs.Noted.{number_before, restored}
 use Rattle.chassis.specs.Points.{inputs_of, outputs_of}
 use Rattle.chassis.specs.Ranges.{IsWithin}
 use Rattle.engine_face.specs.declared.refusal.Refusal.TheVariants.{NoMemory}
-use Rattle.engine_face.specs.Limits.{text_limit, word_limit, scan_time_limit}
 use Rattle.engine_face.specs.Meaning.{Meaning, Scanned, NamesKnown, changes}
+use Rattle.tri_base.specs.Limits.{scan_time_limit, text_limit, word_limit}
 
 -- Pairs of an address and a number tell what a scan did to the words.
 pub record TellStores (before after : List ℤ) (pairs : List (ℕ × ℤ)) : Type 0 where

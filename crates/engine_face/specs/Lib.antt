@@ -2,5 +2,4 @@ pub mod Answers
 pub mod Counting
 pub mod Inner
 pub mod Laws
-pub mod Limits
 pub mod Meaning

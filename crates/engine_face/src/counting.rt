@@ -5,14 +5,10 @@ ghost use Rattle.chassis.specs.Ranges.{HoldsZero};
 ghost use Rattle.engine_face.specs.Counting.{zeros_at};
 
 use crate::engine::Engine;
-use crate::limits::TEXT_LIMIT;
 use crate::refusal::Refusal;
 use chassis::is_input;
 use std::alloc::Global;
-use tri_base::{Name, NoMemory, Point, Text, Touched, Words};
-
-/// The greatest count.
-const GREATEST_COUNT: i64 = 32_767;
+use tri_base::{GREATEST_COUNT, Name, NoMemory, Point, TEXT_LIMIT, Text, Touched, Words};
 
 /// An engine for tests: each text of 1 to 16,384 bytes is a program of one word, which counts its
 /// scans up to 32,767. Its outputs are 0.

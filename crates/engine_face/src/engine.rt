@@ -14,10 +14,10 @@ pub trait Engine: Drop {
     ghost use Rattle.tri_base.specs.Noted.{restored};
     ghost use Rattle.chassis.specs.Points.{inputs_of, outputs_of};
     ghost use Rattle.chassis.specs.Ranges.{HoldsZero};
-    ghost use Rattle.engine_face.specs.Limits.{scan_time_limit};
     ghost use Rattle.engine_face.specs.Meaning.{Meaning, NamesKnown, changes};
     ghost use Rattle.engine_face.specs.Laws.{IsMeaning};
     ghost use Rattle.engine_face.specs.Answers.{Builds};
+    ghost use Rattle.tri_base.specs.Limits.{scan_time_limit};
 
     /// A text that was built.
     type Program: Drop;

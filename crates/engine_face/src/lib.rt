@@ -5,13 +5,12 @@
 mod counting;
 mod engine;
 pub mod laws;
-mod limits;
 mod refusal;
 mod verdict;
 
 pub use counting::{CountEngine, CountProgram};
 pub use engine::Engine;
-pub use limits::{TEXT_LIMIT, WORD_LIMIT};
+pub use tri_base::{TEXT_LIMIT, WORD_LIMIT};
 pub use refusal::Refusal;
 pub use verdict::Verdict;
 

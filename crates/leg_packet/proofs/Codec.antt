@@ -7,7 +7,8 @@ use Rattle.std.specs.Ordering.{int_eq}
 use Rattle.std.proofs.lemmas.Bool.{and_parts, and_from, cond-true, ltb-true, lt-ltb}
 use Rattle.std.proofs.lemmas.Bool.Decides.{nat_tests, Decides-int_eq}
 use Rattle.std.proofs.lemmas.Int.{ints}
-use Rattle.leg_packet.specs.Sheets.{Sheet, flat, spelled, window_length, IsByte, Rise, IsCanonical, is_byte, with_pair, pairs_of, sheet_with_pairs, sheet_with_tail, sheet_behind, is_from_to, sheet_of, epoch_limit, text_limit, word_limit}
+use Rattle.leg_packet.specs.Sheets.{Sheet, flat, spelled, window_length, IsByte, Rise, IsCanonical, is_byte, with_pair, pairs_of, sheet_with_pairs, sheet_with_tail, sheet_behind, is_from_to, sheet_of, epoch_limit}
+use Rattle.tri_base.specs.Limits.{text_limit, word_limit}
 
 pub from_to : (x : ℤ) (k : ℕ) → is_from_to x k ≡ true → (pos (nat_abs x) ≡ x) × (nat_abs x ≤ k)
 from_to (pos n) k h = (refl, grind (arith, ints, nat_tests))

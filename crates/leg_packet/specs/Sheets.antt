@@ -4,6 +4,7 @@ use Rattle.std.specs.Prelude.{◌≡◌, ℕ, zero, suc, ℤ, pos, nat_abs, ◌+
 use Rattle.std.specs.List.{All, list_all}
 use Rattle.std.specs.Ordering.{int_eq}
 use Rattle.leg_packet.specs.declared.sheet.OutSheet.{OutSheet}
+use Rattle.tri_base.specs.Limits.{text_limit, word_limit}
 
 -- What a running result says: how often a download was accepted, which window is shown, how many bytes the program's
 -- text has and how many words its memory, the window's words, the changes and the outputs' counts.
@@ -34,14 +35,6 @@ packet_limit = 8518
 -- How many downloads are counted.
 abbrev pub epoch_limit : ℕ
 epoch_limit = 10 ^ 18
-
--- How many bytes the text of a program has at most.
-abbrev pub text_limit : ℕ
-text_limit = 16384
-
--- How many words the memory of a program has at most.
-abbrev pub word_limit : ℕ
-word_limit = 4096
 
 -- How many windows of 64 a text and words have, of so many numbers in all.
 abbrev pub windows_of : ℕ → ℕ

@@ -1,15 +1,13 @@
 ghost use Rattle.std.specs.Prelude.{◌≡◌, ◌≤◌, ◌^◌, length, slice_index_or, pos, int_le, nat_abs, ◌≤ℤ◌, Some, None, IfSome, if◌then◌else◌};
-ghost use Rattle.leg_packet.specs.Sheets.{is_from_to, epoch_limit, text_limit, word_limit};
+ghost use Rattle.leg_packet.specs.Sheets.{is_from_to, epoch_limit};
 ghost use Rattle.leg_packet.specs.Inner.Heads.{are_heads};
+ghost use Rattle.tri_base.specs.Limits.{text_limit, word_limit};
 
 use crate::writing::RUNNING_RESULT;
+use tri_base::{TEXT_LIMIT, WORD_LIMIT};
 
-// The greatest epoch, and the most bytes and words that a program has.
+// The greatest epoch.
 const EPOCH_LIMIT: usize = 1_000_000_000_000_000_000;
-
-const TEXT_LIMIT: usize = 16_384;
-
-const WORD_LIMIT: usize = 4_096;
 
 /// The first words of a running result.
 #[derive(Clone, Copy)]

@@ -1,7 +1,7 @@
 ghost use Rattle.std.specs.Prelude.{◌≡◌, ◌≤◌, option_map};
-ghost use Rattle.leg_packet.specs.Sheets.{word_limit};
 ghost use Rattle.leg_packet.specs.Inner.Behind.{behind, is_address};
 ghost use Rattle.leg_packet.specs.Inner.AfterPair.{IsAfterPair};
+ghost use Rattle.tri_base.specs.Limits.{word_limit};
 
 use crate::heads::natural;
 

@@ -8,10 +8,7 @@ use crate::packet::Packet;
 use crate::views::InView;
 use crate::writing::READINGS;
 use chassis::{Chassis, is_input};
-use tri_base::Point;
-
-// The longest scan in milliseconds.
-const LONGEST_SCAN: i64 = 10_000;
+use tri_base::{Point, SCAN_TIME_LIMIT};
 
 /// The readings that a packet spells; None exactly where it spells no canonical ones. It takes no
 /// memory.
@@ -30,7 +27,7 @@ fn readings_in<'p>(words: &'p [i64], points: &[Point]) -> Option<InView<'p>>
 {
     match words {
         [READINGS, time, values @ ..]
-            if 1 <= *time && *time <= LONGEST_SCAN && within(points, values) => {
+            if 1 <= *time && *time <= SCAN_TIME_LIMIT && within(points, values) => {
             Some(InView { dt: *time, values })
         }
         _ => None,

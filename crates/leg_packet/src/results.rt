@@ -1,7 +1,8 @@
 ghost use Rattle.std.specs.Prelude.{◌≡◌, ◌≢◌, ◌≤◌, ◌^◌, ◌∷◌, IfSome, IfNone};
 ghost use Rattle.std.specs.List.{list_all};
-ghost use Rattle.leg_packet.specs.Sheets.{Sheet, IsCanonical, spelled, epoch_limit, text_limit, word_limit, is_byte, pairs_of, sheet_with_pairs, sheet_behind, sheet_with_tail, sheet_of};
+ghost use Rattle.leg_packet.specs.Sheets.{Sheet, IsCanonical, spelled, epoch_limit, is_byte, pairs_of, sheet_with_pairs, sheet_behind, sheet_with_tail, sheet_of};
 ghost use Rattle.leg_packet.specs.Views.{Shows, IsViewOf};
+ghost use Rattle.tri_base.specs.Limits.{text_limit, word_limit};
 
 use crate::heads::{Front, Heads, front_of, heads_of, natural};
 use crate::packet::Packet;

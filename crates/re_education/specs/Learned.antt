@@ -1,11 +1,12 @@
 -- What learning answers and leaves. Own rule.
 use Rattle.std.specs.Prelude.{◌≡◌, ℤ, pos, ◌≤◌, ◌≤ℤ◌, length, Option, Some, None, Result, Ok, Err}
 use Rattle.tri_base.specs.declared.memory.NoMemory.{NoMemory}
-use Rattle.leg_packet.specs.Sheets.{epoch_limit, text_limit, word_limit}
+use Rattle.leg_packet.specs.Sheets.{epoch_limit}
 use Rattle.re_education.specs.declared.progress.Progress.{Progress}
 use Rattle.re_education.specs.declared.progress.Progress.TheVariants.{Waiting, Learned, Ready}
 use Rattle.re_education.specs.declared.progress.Image.{Image}
 use Rattle.re_education.specs.Learning.{Lesson, Whole, Outcome, Waits, Goes_on, Ends}
+use Rattle.tri_base.specs.Limits.{text_limit, word_limit}
 
 -- An image of a whole memory.
 pub record ImageOf (w : Whole) (i : Image) : Type 0 where

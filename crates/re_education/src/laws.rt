@@ -1,8 +1,8 @@
 //! What holds of all packets that are learned from.
 
 ghost use Rattle.std.specs.Prelude.{◌≤◌, ◌+◌, ℤ, List};
-ghost use Rattle.leg_packet.specs.Sheets.{text_limit, word_limit};
 ghost use Rattle.re_education.specs.Lessons.{size_shown};
+ghost use Rattle.tri_base.specs.Limits.{text_limit, word_limit};
 
 use leg_packet::laws::spells_what_is_read;
 

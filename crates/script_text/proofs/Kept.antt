@@ -33,12 +33,13 @@ use Rattle.script_text.specs.declared.moment.ScanLine.{ScanLine}
 use Rattle.script_text.specs.declared.moment.ScanLine.TheVariants.{Set as SetLine, Time as TimeLine, Download as DownloadLine, Mute as MuteLine, Poke as PokeLine, Replace as ReplaceLine, Swap as SwapLine, Read as ReadLine, Result as ResultWords, Drive as DriveLine}
 use Rattle.script_text.specs.MomentValue.{MomentValue}
 use Rattle.script_text.specs.ScriptValue.{ScriptValue}
-use Rattle.script_text.specs.Standing.{Standing, beginning, scan_limit, address_limit, with_last, with_line, with_rename, with_ask, inside, line_added, opening, count_within, all_within, new_moment, is_time, pointed, scans_to, at_scan, set_input, set_point, timed, poked, download, stated, shaped, is_prepared, may_stand, worded, outside, closed, blocked, placed, numbered, after}
+use Rattle.script_text.specs.Standing.{Standing, beginning, address_limit, with_last, with_line, with_rename, with_ask, inside, line_added, opening, count_within, all_within, new_moment, is_time, pointed, scans_to, at_scan, set_input, set_point, timed, poked, download, stated, shaped, is_prepared, may_stand, worded, outside, closed, blocked, placed, numbered, after}
 use Rattle.script_text.specs.Spells.{goes_on, come_to, contents_of, script_in}
 use Rattle.script_text.specs.IsScript.{is_byte, IsShort, AllShort, IsShortTriple, Writable, IsPlant, IsBlock, IsLine, is_download, downloads, IsRequest, IsMoment, AreMoments, IsScript}
 use Rattle.script_text.proofs.LineFacts.{both, no_feed, AreContents, contents_are, all_bytes, contents_bytes}
 use Rattle.script_text.proofs.Orders.{has_scans, is_early, is_late, early, late}
 use Rattle.script_text.proofs.Reaches.{Given, given_map, given_then, given_when, given_at, short_number, read_name, good_numbers, good_triple, good_request, plant_more, block_more, moment_line, moment_rename, moment_ask, downloads_more, LastDoes, LastIs, moment_more, last_more, does_more, changed, does, last_changed, setting_is}
+use Rattle.tri_base.specs.Limits.{scan_limit}
 
 -- ---- what a line says by itself
 

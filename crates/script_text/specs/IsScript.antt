@@ -15,7 +15,8 @@ use Rattle.script_text.specs.declared.moment.ScanLine.TheVariants.{Set, Time, Do
 use Rattle.script_text.specs.declared.moment.Setting.{Setting}
 use Rattle.script_text.specs.MomentValue.{MomentValue}
 use Rattle.script_text.specs.ScriptValue.{ScriptValue}
-use Rattle.script_text.specs.Standing.{all_within, is_time, scan_limit, address_limit}
+use Rattle.script_text.specs.Standing.{all_within, is_time, address_limit}
+use Rattle.tri_base.specs.Limits.{scan_limit}
 
 -- A number has at most 18 digits.
 abbrev pub IsShort : ℤ → Type 0

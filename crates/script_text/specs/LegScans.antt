@@ -15,7 +15,7 @@ use Rattle.script_text.specs.declared.moment.ScanLine.TheVariants.{Set, Time, Do
 use Rattle.script_text.specs.MomentValue.{MomentValue}
 use Rattle.script_text.specs.Moments.{moment_at}
 use Rattle.script_text.specs.ScriptValue.{ScriptValue}
-use Rattle.script_text.specs.Standing.{time_limit}
+use Rattle.tri_base.specs.Limits.{scan_time_limit}
 
 -- A line that changes the leg's state.
 pub data LegAct : Type 0 where
@@ -157,7 +157,7 @@ LoadsBytes (Some d) = All (λ b. b < 256) d.text
 -- A leg can read a scan: its time lies within the limits, each input has a reading within its range, and its texts are
 -- bytes.
 pub record IsReadable (points : List Point) (l : LegScan) : Type 0 where
-  pub time : (pos 1 ≤ℤ l.time) × (l.time ≤ℤ pos time_limit)
+  pub time : (pos 1 ≤ℤ l.time) × (l.time ≤ℤ scan_time_limit)
   pub readings : AllZip IsWithin (inputs_of points) l.readings
   pub acts : All SwapsBytes l.acts
   pub download : LoadsBytes l.download

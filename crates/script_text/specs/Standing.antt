@@ -24,6 +24,7 @@ use Rattle.script_lines.specs.Statements.{statement_of, begins_comment}
 use Rattle.script_lines.specs.Lines.{ended}
 use Rattle.script_lines.specs.Words.{words_of}
 use Rattle.script_text.specs.MomentValue.{MomentValue}
+use Rattle.tri_base.specs.Limits.{scan_limit, scan_time_limit}
 
 -- What lines come to.
 pub record Standing : Type 0 where
@@ -64,14 +65,6 @@ beginning = record {
   downloaded = false;
   moments = [];
 }
-
--- The most scans of a script.
-abbrev pub scan_limit : ℕ
-scan_limit = 2000
-
--- The longest scan time in milliseconds.
-abbrev pub time_limit : ℕ
-time_limit = 10000
 
 -- The greatest address of a word.
 abbrev pub address_limit : ℕ
@@ -153,7 +146,7 @@ set_point s reads None = Err PointCause
 
 -- A scan time.
 abbrev pub is_time : ℤ → Bool
-is_time t = int_le (pos 1) t && int_le t (pos time_limit)
+is_time t = int_le (pos 1) t && int_le t (scan_time_limit)
 
 -- `TIME`: each from 1 to 10,000.
 abbrev pub timed : Standing → Triple ℤ → Result Standing ScriptCause

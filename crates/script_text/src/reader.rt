@@ -2,7 +2,7 @@ ghost use Rattle.std.specs.Prelude.{◌≡◌, ◌+◌, ◌<◌, ◌^◌, slice_
 ghost use Rattle.chassis.specs.Points.{place_of, refusal_of};
 ghost use Rattle.script_lines.specs.Words.{words_of};
 ghost use Rattle.chassis.specs.Ranges.{is_within};
-ghost use Rattle.script_text.specs.Standing.{Standing, beginning, after, outside, worded, stated, may_stand, timed, is_time, poked, inside, opening, with_rename, with_ask, pointed, scans_to, at_scan, count_within, set_point, set_input, all_within, download, closed, blocked, line_added, with_last, with_line, scan_limit, address_limit};
+ghost use Rattle.script_text.specs.Standing.{Standing, beginning, after, outside, worded, stated, may_stand, timed, is_time, poked, inside, opening, with_rename, with_ask, pointed, scans_to, at_scan, count_within, set_point, set_input, all_within, download, closed, blocked, line_added, with_last, with_line, address_limit};
 ghost use Rattle.script_text.specs.IsScript.{IsScript};
 ghost use Rattle.script_text.specs.Spells.{script_in};
 ghost use Rattle.script_text.specs.Inner.Steps.{Steps, finished};
@@ -18,13 +18,7 @@ use script_lines::{
 use std::alloc::Global;
 use std::marker::Model;
 use std::mem::replace;
-use tri_base::{Leg, Name, NoMemory, Point, Text, Triple};
-
-// The most scans of a script.
-const SCANS: u32 = 2_000;
-
-// The longest scan time in milliseconds.
-const TIME: i64 = 10_000;
+use tri_base::{Leg, Name, NoMemory, Point, SCAN_LIMIT, SCAN_TIME_LIMIT, Text, Triple};
 
 // The greatest address of a word.
 const ADDRESS: u32 = 4_095;
@@ -240,7 +234,7 @@ impl Reader {
         Ok(())
     }
 
-    /// Takes a TIME line's scan times.
+    /// Takes a SCAN_TIME_LIMIT line's scan times.
     fn take_times(&mut self, reads: Triple<i64>) -> Result<(), LineFault>
         ensures step { Steps (timed self.old reads) result self.new }
         ensures line { self.new.line ≡ self.old.line }
@@ -322,7 +316,7 @@ impl Reader {
             (count_within 1 scan_limit number)) result self.new }
         ensures line { self.new.line ≡ self.old.line }
     {
-        let Some(scans) = count(1, SCANS, number) else {
+        let Some(scans) = count(1, SCAN_LIMIT, number) else {
             return Err(LineFault::Cause(ScriptCause::Range));
         };
         self.part = Part::Count;
@@ -478,7 +472,7 @@ fn are_times(reads: &Triple<i64>) -> bool
 fn is_time(time: i64) -> bool
     ensures { result ≡ is_time time }
 {
-    1 <= time && time <= TIME
+    1 <= time && time <= SCAN_TIME_LIMIT
 }
 
 /// A number as a count, where it lies from `low` to `high`.

@@ -28,13 +28,14 @@ use Rattle.script_text.specs.declared.moment.ScanLine.TheVariants.{Set as SetLin
 use Rattle.script_text.specs.declared.moment.Setting.{Setting}
 use Rattle.script_text.specs.MomentValue.{MomentValue}
 use Rattle.script_text.specs.ScriptValue.{ScriptValue}
-use Rattle.script_text.specs.Standing.{Standing, beginning, scan_limit, address_limit, with_last, with_line, with_rename, with_ask, line_added, count_within, new_moment, is_time, pointed, scans_to, at_scan, set_input, set_point, poked, stated, shaped, is_prepared, worded, outside, placed, numbered, after, closed}
+use Rattle.script_text.specs.Standing.{Standing, beginning, address_limit, with_last, with_line, with_rename, with_ask, line_added, count_within, new_moment, is_time, pointed, scans_to, at_scan, set_input, set_point, poked, stated, shaped, is_prepared, worded, outside, placed, numbered, after, closed}
 use Rattle.script_text.specs.Spells.{contents_of, goes_on, come_to, script_in, Spells}
 use Rattle.script_text.specs.IsScript.{IsShort, IsShortTriple, Writable, IsPlant, AreBlockLines, IsBlock, IsSetting, IsLine, is_download, downloads, AreLines, AreRenames, HaveDownload, IsRequest, AreRequests, AreMoments, IsScript}
 use Rattle.script_text.proofs.LineFacts.{AreContents}
 use Rattle.script_writer.specs.Canonical.{spaced, point_words, point_tail, triple_words, leg_word, sided_words, name_at, block_lines, hex_of, rename_line, ask_line, line_lines, moment_lines, schedule_lines, canonical_lines, canonical_text, read_back}
 use Rattle.script_writer.proofs.RoundLines.{contents_again, both_contents, line_again, words_again, spaced_content, ArePlain}
 use Rattle.script_writer.proofs.RoundWords.{number_again, number_plain, numbers_again, numbers_plain, name_plain, triple_again, triple_plain, leg_again, leg_plain, sided_again, sided_plain, time_short, legs_again, legs_plain, bytes_again, bytes_count, bytes_plain, point_again, point_plain}
+use Rattle.tri_base.specs.Limits.{scan_limit}
 
 -- ---- lines in two pieces
 

@@ -3,6 +3,7 @@ pub mod Downloads
 pub mod Inner
 pub mod Legs
 pub mod Lent
+pub mod Limits
 pub mod Names
 pub mod Noted
 pub mod Numbers

@@ -45,6 +45,8 @@ pub enum TypeCause {
 /// A typing rule that is broken, and the byte of the program's text at which it is.
 #[derive(Clone, Copy, Debug, PartialEq, Eq)]
 pub struct TypeFault {
+    /// The byte, counted from 0.
     pub place: usize,
+    /// The rule.
     pub cause: TypeCause,
 }

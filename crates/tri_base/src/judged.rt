@@ -9,7 +9,7 @@ pub enum Judged {
     Accuses(Leg),
     /// Its own result differs from two equal ones: it has to learn anew.
     Minority,
-    /// No two results say enough.
+    /// None of the other answers: two results are missing, or no two are equal.
     NoVote,
     /// It learns, and its neighbours' results were of no use.
     Waiting,

@@ -4,23 +4,31 @@ ghost use Rattle.tri_base.specs.Legs.{left_of, right_of, leg_part, neighbour, op
 /// One of the three main processors.
 #[derive(Clone, Copy, Debug, PartialEq, Eq)]
 pub enum Leg {
+    /// Leg A: its left neighbour is C, its right neighbour is B.
     A,
+    /// Leg B: its left neighbour is A, its right neighbour is C.
     B,
+    /// Leg C: its left neighbour is B, its right neighbour is A.
     C,
 }
 
 /// A side of a leg, towards one of its neighbours.
 #[derive(Clone, Copy, Debug, PartialEq, Eq)]
 pub enum Side {
+    /// Towards the left neighbour.
     Left,
+    /// Towards the right neighbour.
     Right,
 }
 
 /// One value for each leg.
 #[derive(Clone, Copy, Debug, PartialEq, Eq, Drop)]
 pub struct Triple<T> {
+    /// The value of leg A.
     pub a: T,
+    /// The value of leg B.
     pub b: T,
+    /// The value of leg C.
     pub c: T,
 }
 

@@ -4,6 +4,7 @@
 mod faults;
 mod judged;
 mod leg;
+mod limits;
 mod memory;
 mod name;
 mod number;
@@ -18,6 +19,7 @@ mod words;
 pub use faults::{LexCause, TypeCause, TypeFault};
 pub use judged::Judged;
 pub use leg::{Leg, Side, Triple};
+pub use limits::{GREATEST_COUNT, LEAST_COUNT, SCAN_LIMIT, SCAN_TIME_LIMIT, TEXT_LIMIT, WORD_LIMIT};
 pub use memory::NoMemory;
 pub use name::Name;
 pub use number::{push_number, read_number};

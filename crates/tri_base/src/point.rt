@@ -16,7 +16,9 @@ pub enum PointKind {
 /// A point of the chassis. A discrete point goes from 0 to 1 with tolerance 0.
 #[derive(Clone, Copy, Debug, PartialEq, Eq)]
 pub struct Point {
+    /// The name by which programs and scripts speak of it.
     pub name: Name,
+    /// What it is.
     pub kind: PointKind,
     /// The least count.
     pub low: i64,

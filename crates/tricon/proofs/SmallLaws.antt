@@ -6,13 +6,14 @@ use Rattle.std.proofs.lemmas.Slice.Eq.{bytes_eq-Decides}
 use Rattle.std.proofs.lemmas.List.Quantifiers.{all_pairs_push}
 use Rattle.tri_base.specs.declared.point.Point.{Point}
 use Rattle.chassis.specs.Points.{place_of}
-use Rattle.tricon.specs.SmallProgram.{SmallProgram, text_limit, IsSmall, IsTag, IsAssignment, IsIdentifier, capitals_of, spelled, separated, assignment_of, tag_name, name_at, is_at, is_discrete, is_output_kind}
+use Rattle.tricon.specs.SmallProgram.{SmallProgram, IsSmall, IsTag, IsAssignment, IsIdentifier, capitals_of, spelled, separated, assignment_of, tag_name, name_at, is_at, is_discrete, is_output_kind}
 use Rattle.tricon.specs.SmallMeaning.{number_of}
 use Rattle.tricon.specs.Inner.SmallReading.{keyword, identifier, identifier_of, head, end_of_block, place_named, with_tag, tags_from, tag_named, output_named, statement, statements_from, program_of}
 use Rattle.tricon.proofs.SmallNames.{identifier_is}
 use Rattle.tricon.proofs.SmallTags.{number_is, none_passes}
 use Rattle.tricon.proofs.SmallPoints.{place_is}
 use Rattle.tricon.proofs.SmallReads.{and_then_some, same_some, passed, keyword_is, statement_is}
+use Rattle.tri_base.specs.Limits.{text_limit}
 
 -- ---- what the reader answers is spelled so
 

@@ -10,6 +10,7 @@ use Rattle.tri_base.specs.declared.point.Point.{Point}
 use Rattle.tri_base.specs.declared.point.PointKind.{PointKind}
 use Rattle.tri_base.specs.declared.point.PointKind.TheVariants.{Di, Ai, Do, Ao}
 use Rattle.chassis.specs.Points.{is_input_kind}
+use Rattle.tri_base.specs.Limits.{text_limit}
 
 -- `:`
 abbrev pub colon : ℕ
@@ -22,10 +23,6 @@ equals = 61
 -- White space, which separates the pieces of a text.
 abbrev pub is_white : ℕ → Bool
 is_white b = b == space || b == tab || b == line_feed || b == carriage_return
-
--- A program's text has at most so many bytes.
-abbrev pub text_limit : ℕ
-text_limit = 16384
 
 -- Whether a byte and the one behind it stand in one piece: two bytes of one word, or `:=`.
 abbrev pub joins : ℕ → List ℕ → Bool

@@ -1,7 +1,8 @@
 -- The middle of three counts, of which some may be absent (own rule). A count has 16 bits, and None is absent.
-use Rattle.std.specs.Prelude.{ℤ, pos, negsuc, ◌+ℤ◌, ◌-ℤ◌, ◌≤ℤ◌, int_lt, unsigned_abs, Bool, true, List, [], ◌∷◌, ◌++◌, Option, Some, None, option_to_list}
+use Rattle.std.specs.Prelude.{ℤ, pos, ◌+ℤ◌, ◌-ℤ◌, ◌≤ℤ◌, int_lt, unsigned_abs, Bool, true, List, [], ◌∷◌, ◌++◌, Option, Some, None, option_to_list}
 use Rattle.std.specs.Int.{int_min, int_max, int_div_euclid}
 use Rattle.tri_base.specs.declared.leg.Triple.{Triple}
+use Rattle.tri_base.specs.Limits.{least_count, greatest_count}
 
 -- Of no count 0, of one that one, of two the floor of their mean, of three the middle one.
 abbrev pub middle : List ℤ → ℤ
@@ -17,7 +18,7 @@ present counts = option_to_list counts.a ++ option_to_list counts.b ++ option_to
 -- A count of 16 bits, where there is one.
 abbrev pub IsCount : Option ℤ → Type 0
 IsCount None = Unit {0}
-IsCount (Some count) = (negsuc 32767 ≤ℤ count) × (count ≤ℤ pos 32767)
+IsCount (Some count) = (least_count ≤ℤ count) × (count ≤ℤ greatest_count)
 
 -- The same of three.
 abbrev pub AreCounts : Triple (Option ℤ) → Type 0

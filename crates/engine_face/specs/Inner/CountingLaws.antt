@@ -9,9 +9,9 @@ use Rattle.tri_base.specs.declared.point.Point.{Point}
 use Rattle.chassis.specs.Points.{is_input_kind, outputs_of}
 use Rattle.chassis.specs.Ranges.{IsWithin, HoldsZero}
 use Rattle.engine_face.specs.declared.refusal.Refusal.TheVariants.{TooLarge, NoMemory}
-use Rattle.engine_face.specs.Limits.{text_limit}
 use Rattle.engine_face.specs.Laws.{IsMeaning, TellStores}
 use Rattle.engine_face.specs.Counting.{counting_refusal, counted, zeros_at, first_pair, counting}
+use Rattle.tri_base.specs.Limits.{text_limit}
 
 counting_text : (text : List ℕ) → counting_refusal text ≡ None → (0 < length text) × (length text ≤ text_limit)
 counting_text [] h = absurd (cc)

@@ -1,7 +1,8 @@
 -- Nobody has to believe what stands here: it serves private functions alone.
 use Rattle.std.specs.Prelude.{ℤ, pos, Bool, ◌&&◌, int_le}
 use Rattle.std.specs.Ordering.{int_eq}
-use Rattle.leg_packet.specs.Sheets.{is_from_to, epoch_limit, text_limit, word_limit}
+use Rattle.leg_packet.specs.Sheets.{is_from_to, epoch_limit}
+use Rattle.tri_base.specs.Limits.{text_limit, word_limit}
 
 -- Five words that begin a running result.
 abbrev pub are_heads : (kind epoch turn text_length word_length : ℤ) → Bool

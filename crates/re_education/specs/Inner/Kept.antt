@@ -1,8 +1,9 @@
 -- Nobody has to believe what stands here: it serves private fields and functions alone.
 use Rattle.std.specs.Prelude.{◌≡◌, ◌+◌, ◌≤◌, ◌<◌, length, take, drop, map, nat_abs, Option, Some, None, Bool, false}
 use Rattle.std.specs.List.{All}
-use Rattle.leg_packet.specs.Sheets.{Sheet, IsByte, windows_of, epoch_limit, text_limit, word_limit}
+use Rattle.leg_packet.specs.Sheets.{Sheet, IsByte, windows_of, epoch_limit}
 use Rattle.re_education.specs.Learning.{Lesson, Whole, expects, held, taught, next_turn}
+use Rattle.tri_base.specs.Limits.{text_limit, word_limit}
 
 -- What holds of each lesson that is kept.
 pub record IsKept (z : Lesson) : Type 0 where

@@ -3,6 +3,7 @@
 use Rattle.std.specs.Prelude.{◌≡◌, ℕ, ℤ, pos, negsuc, ◌+◌, ◌<◌, ◌≤◌, ◌≤ℤ◌, ◌==◌, ◌&&◌, nat_le, Bool, true, false, List, [], ◌∷◌, ◌++◌, length, map, fold, flat_map, slice_set, slice_index_or, Option, Some, None, is_none, if◌then◌else◌}
 use Rattle.std.specs.List.{range_with_len}
 use Rattle.std.specs.List.Sorted.{IsNonDecreasingBy, IsPartitionPoint}
+use Rattle.tri_base.specs.Limits.{least_count, greatest_count}
 use Rattle.tri_base.specs.Downloads.{Download}
 use Rattle.tri_base.specs.Legs.{leg_part}
 use Rattle.tri_base.specs.declared.leg.Leg.{Leg}
@@ -58,7 +59,7 @@ rows_from places leg row (m ∷ moments) =
 
 -- a reading has 16 bits
 abbrev pub HasBits : ℤ → Type 0
-HasBits z = (negsuc 32767 ≤ℤ z) × (z ≤ℤ pos 32767)
+HasBits z = (least_count ≤ℤ z) × (z ≤ℤ greatest_count)
 
 -- a line sets a reading that is there, to 16 bits
 abbrev pub SetFits : List ℕ → ℕ → ScanLine → Type 0

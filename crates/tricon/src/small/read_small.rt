@@ -6,10 +6,7 @@ use crate::small::read::read_body;
 use crate::small::wire::wire;
 use chassis::Chassis;
 use std::alloc::Global;
-use tri_base::NoMemory;
-
-// How many bytes the text of a program may have.
-const TEXT_LIMIT: usize = 16_384;
+use tri_base::{NoMemory, TEXT_LIMIT};
 
 /// Reads a small program over the points of a chassis: the one that the text spells, or None where
 /// it spells none.
