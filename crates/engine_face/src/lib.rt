@@ -10,8 +10,8 @@ mod verdict;
 
 pub use counting::{CountEngine, CountProgram};
 pub use engine::Engine;
-pub use tri_base::{TEXT_LIMIT, WORD_LIMIT};
 pub use refusal::Refusal;
+pub use tri_base::{TEXT_LIMIT, WORD_LIMIT};
 pub use verdict::Verdict;
 
 #[cfg(test)]

@@ -19,7 +19,9 @@ mod words;
 pub use faults::{LexCause, TypeCause, TypeFault};
 pub use judged::Judged;
 pub use leg::{Leg, Side, Triple};
-pub use limits::{GREATEST_COUNT, LEAST_COUNT, SCAN_LIMIT, SCAN_TIME_LIMIT, TEXT_LIMIT, WORD_LIMIT};
+pub use limits::{
+    GREATEST_COUNT, LEAST_COUNT, SCAN_LIMIT, SCAN_TIME_LIMIT, TEXT_LIMIT, WORD_LIMIT,
+};
 pub use memory::NoMemory;
 pub use name::Name;
 pub use number::{push_number, read_number};
