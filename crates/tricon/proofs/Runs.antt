@@ -6,8 +6,8 @@ use Rattle.tri_base.specs.Rows.{TextValue}
 use Rattle.tri_io.specs.FaultCounts.{Rose}
 use Rattle.tri_io.specs.WholeStreams.{TakesAll, TakesPast, TakesFront}
 use Rattle.tri_base.specs.declared.point.Point.{Point}
-use Rattle.plant_script.specs.ScriptText.{script_of}
-use Rattle.plant_script.specs.ScriptValue.{ReadScript}
+use Rattle.discrete_script.specs.ScriptText.{script_of}
+use Rattle.discrete_script.specs.ScriptValue.{ReadScript}
 use Rattle.tricon.specs.SmallProgram.{IsSmall}
 use Rattle.tricon.specs.SmallMeaning.{Wiring, wiring_of}
 use Rattle.tricon.specs.Inner.SmallWired.{Means, MeansNothing}

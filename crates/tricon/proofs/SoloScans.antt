@@ -10,9 +10,9 @@ use Rattle.tri_base.specs.declared.leg.Leg.TheVariants.{A, B, C}
 use Rattle.tri_base.specs.declared.point.Point.{Point}
 use Rattle.tri_base.specs.Legs.{leg_part}
 use Rattle.chassis.specs.Points.{is_input_kind, inputs_of}
-use Rattle.plant_script.specs.declared.scan_line.Setting.{Setting}
-use Rattle.plant_script.specs.ScriptValue.{ScriptValue}
-use Rattle.plant_script.specs.Readings.{settings_until, sheet_after, at_inputs, shown_readings, tape_of}
+use Rattle.discrete_script.specs.declared.scan_line.Setting.{Setting}
+use Rattle.discrete_script.specs.ScriptValue.{ScriptValue}
+use Rattle.discrete_script.specs.Readings.{settings_until, sheet_after, at_inputs, shown_readings, tape_of}
 use Rattle.tricon.specs.SmallMeaning.{Wiring, memory_after}
 use Rattle.tricon.specs.VotedInputs.{votes, voted_inputs}
 use Rattle.tricon.specs.Inner.LegTapes.{tapes_of, votes_at, HasScan}

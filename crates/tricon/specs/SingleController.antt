@@ -1,6 +1,6 @@
 -- One controller without faults, which runs the script's program over the voted inputs, scan by scan.
 use Rattle.std.specs.Prelude.{ℕ, zero, suc, ℤ, List}
-use Rattle.plant_script.specs.ScriptValue.{ScriptValue}
+use Rattle.discrete_script.specs.ScriptValue.{ScriptValue}
 use Rattle.tricon.specs.SmallMeaning.{Wiring, first_memory, memory_after, outputs_of}
 use Rattle.tricon.specs.VotedInputs.{voted_inputs}
 

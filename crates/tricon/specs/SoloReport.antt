@@ -2,8 +2,8 @@
 use Rattle.std.specs.Prelude.{◌≡◌, ℕ, ℤ, pos, List, [], ◌∷◌, ◌++◌, Some, codes}
 use Rattle.std.specs.List.{flat_map, range_with_len}
 use Rattle.std.specs.Fmt.{signed_decimal}
-use Rattle.plant_script.specs.ScriptValue.{ScriptValue, ReadScript}
-use Rattle.plant_script.specs.ScriptText.{script_of}
+use Rattle.discrete_script.specs.ScriptValue.{ScriptValue, ReadScript}
+use Rattle.discrete_script.specs.ScriptText.{script_of}
 use Rattle.tricon.specs.SmallProgram.{SmallProgram, IsSmall}
 use Rattle.tricon.specs.SmallMeaning.{Wiring, wiring_of}
 use Rattle.tricon.specs.VotedInputs.{voted_inputs}

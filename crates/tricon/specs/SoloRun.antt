@@ -3,8 +3,8 @@ use Rattle.std.specs.Prelude.{◌≡◌, ◌≢◌, ℕ, List, [], ◌∷◌, ma
 use Rattle.tri_base.specs.Rows.{TextValue}
 use Rattle.tri_io.specs.FaultCounts.{Rose}
 use Rattle.tri_io.specs.WholeStreams.{TakesAll, TakesPast, TakesFront, PutsAll, PutsSome}
-use Rattle.plant_script.specs.ScriptValue.{ReadScript}
-use Rattle.plant_script.specs.ScriptText.{script_of}
+use Rattle.discrete_script.specs.ScriptValue.{ReadScript}
+use Rattle.discrete_script.specs.ScriptText.{script_of}
 use Rattle.tricon.specs.SmallProgram.{SmallProgram, IsSmall}
 use Rattle.tricon.specs.SoloReport.{IsSoloReport}
 use Rattle.tricon.specs.declared.status.Status.{Status}

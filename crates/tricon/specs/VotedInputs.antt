@@ -3,8 +3,8 @@ use Rattle.std.specs.Prelude.{ℕ, ℤ, pos, Bool, not, List, [], ◌∷◌, if�
 use Rattle.std.specs.Ordering.{int_eq}
 use Rattle.tri_base.specs.declared.leg.Leg.TheVariants.{A, B, C}
 use Rattle.vote_discrete.specs.Majority.{majority}
-use Rattle.plant_script.specs.ScriptValue.{ScriptValue}
-use Rattle.plant_script.specs.Readings.{shown_readings}
+use Rattle.discrete_script.specs.ScriptValue.{ScriptValue}
+use Rattle.discrete_script.specs.Readings.{shown_readings}
 
 -- A discrete reading is TRUE where it isn't 0.
 abbrev pub is_on : ℤ → Bool

@@ -7,7 +7,7 @@ ghost use Rattle.tricon.specs.Inner.Plays.{Plays};
 use crate::small::read_small::read_small;
 use crate::solo::push_report;
 use crate::status::{RefusedCause, Status};
-use plant_script::{ScriptFault, read_script};
+use discrete_script::{ScriptFault, read_script};
 use std::alloc::Global;
 use tri_base::Text;
 use tri_io::{ReadAll, Sink, Source, read_all, write_all};

@@ -9,7 +9,7 @@ ghost use Rattle.tricon.specs.SoloReport.{solo_report, scan_of_report, scan_text
 
 use crate::report::{push_led_line, push_line, push_scan};
 use crate::small::program::SmallProgram;
-use plant_script::{Script, Tape};
+use discrete_script::{Script, Tape};
 use std::alloc::Global;
 use tri_base::{Leg, NoMemory, Text, Triple, Words, push_word};
 use vote_discrete::vote;

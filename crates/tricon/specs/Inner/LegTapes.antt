@@ -3,8 +3,8 @@
 use Rattle.std.specs.Prelude.{ℕ, ℤ, ◌<◌, List, [], length, slice_index_or}
 use Rattle.tri_base.specs.declared.leg.Leg.TheVariants.{A, B, C}
 use Rattle.tri_base.specs.declared.leg.Triple.{Triple}
-use Rattle.plant_script.specs.ScriptValue.{ScriptValue}
-use Rattle.plant_script.specs.Readings.{TapeValue, tape_of}
+use Rattle.discrete_script.specs.ScriptValue.{ScriptValue}
+use Rattle.discrete_script.specs.Readings.{TapeValue, tape_of}
 use Rattle.tricon.specs.VotedInputs.{votes}
 
 -- The three legs' tapes.

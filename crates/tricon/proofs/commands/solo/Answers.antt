@@ -1,5 +1,5 @@
 use Rattle.std.proofs.Common.{◌∙◌, arith}
-use Rattle.plant_script.specs.Lines.{lines_of-le}
+use Rattle.discrete_script.specs.Lines.{lines_of-le}
 use Rattle.tricon.proofs.Runs.{reported}
 use Rattle.tricon.proofs.commands.solo.Goals as goal
 
