@@ -1,5 +1,6 @@
 ghost use Rattle.std.specs.Prelude.{◌≡◌, ◌+◌, ◌<◌, ◌^◌, slice_get, Some, Ok, [], ◌&&◌, OnOk};
 ghost use Rattle.chassis.specs.Points.{place_of, refusal_of};
+ghost use Rattle.tri_base.specs.Limits.{scan_limit};
 ghost use Rattle.script_lines.specs.Words.{words_of};
 ghost use Rattle.chassis.specs.Ranges.{is_within};
 ghost use Rattle.script_text.specs.Standing.{Standing, beginning, after, outside, worded, stated, may_stand, timed, is_time, poked, inside, opening, with_rename, with_ask, pointed, scans_to, at_scan, count_within, set_point, set_input, all_within, download, closed, blocked, line_added, with_last, with_line, address_limit};
