@@ -131,7 +131,8 @@ abbrev pub sheet_with_tail : (epoch turn text_length word_length : ℕ) (window 
 sheet_with_tail epoch turn text_length word_length window [] = None
 sheet_with_tail epoch turn text_length word_length window (count ∷ words) =
     if int_le (pos 0) count && list_all is_byte (take (text_length - 64 * turn) window)
-    then sheet_with_pairs epoch turn text_length word_length window (pairs_of (nat_abs count) 0 word_length words) else None
+    then sheet_with_pairs epoch turn text_length word_length window (pairs_of (nat_abs count) 0 word_length words)
+    else None
 
 -- The words behind the lengths: the window, and then its tail.
 abbrev pub sheet_behind : (epoch turn text_length word_length : ℕ) → List ℤ → Option Sheet

@@ -57,7 +57,8 @@ pub fn heads_of(front: Front) -> Option<Heads>
           word_length = nat_abs front.word_length;
         }) else None }
     ensures bounds { IfSome result
-        (λ h. (h.epoch ≤ epoch_limit) × (h.text_length ≤ text_limit) × (h.word_length ≤ word_limit)) }
+        (λ h. (h.epoch ≤ epoch_limit) × (h.text_length ≤ text_limit)
+        × (h.word_length ≤ word_limit)) }
 {
     if front.kind == RUNNING_RESULT
         && is_up_to(&front.epoch, EPOCH_LIMIT)

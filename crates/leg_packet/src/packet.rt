@@ -115,8 +115,8 @@ fn needs_send<T: Send + Drop>(_value: T) {}
 /// Adds what stands in front of the window.
 fn add_heads(words: &mut Words, sheet: &OutSheet)
     requires { 5 ≤ words.old.spare }
-    ensures list { words.new.list ≡ words.old.list ++
-        pos 2 ∷ sheet.now.epoch ∷ sheet.now.turn ∷ sheet.now.text_length ∷ sheet.now.word_length ∷ [] }
+    ensures list { words.new.list ≡ words.old.list ++ pos 2 ∷ sheet.now.epoch ∷ sheet.now.turn
+        ∷ sheet.now.text_length ∷ sheet.now.word_length ∷ [] }
     ensures room { words.new.spare + 5 ≡ words.old.spare }
 {
     words.add(RUNNING_RESULT);

@@ -76,7 +76,8 @@ counting_stores (w ∷ v ∷ words) h = absurd (omega (arith, h))
 
 outputs_fit : (points : List Point) → All HoldsZero points → AllZip IsWithin (outputs_of points) (zeros_at points)
 outputs_fit points h =
-    let outputs : All HoldsZero (outputs_of points) = All-filter (λ (p : Point). not (is_input_kind p.kind)) HoldsZero points h in
+    let outputs : All HoldsZero (outputs_of points) =
+    All-filter (λ (p : Point). not (is_input_kind p.kind)) HoldsZero points h in
     zeros_fit (outputs_of points) (recursion_from_All HoldsZero (outputs_of points) outputs)
 
 pub counting_lawful : (points : List Point) → All HoldsZero points → IsMeaning points (counting points)

@@ -8,4 +8,5 @@ is_address from below word = int_le (pos from) word && nat_lt (nat_abs word) bel
 
 -- What stands behind so many pairs.
 abbrev pub behind : ℕ → ℕ → ℕ → List ℤ → Option (List ℤ)
-behind count from below words = option_map (λ (found : List (ℕ × ℤ) × List ℤ). found.1) (pairs_of count from below words)
+behind count from below words =
+    option_map (λ (found : List (ℕ × ℤ) × List ℤ). found.1) (pairs_of count from below words)
