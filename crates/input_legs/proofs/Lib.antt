@@ -1,4 +1,6 @@
+pub mod Between
 pub mod Readings
 pub mod Rows
 pub mod Runs
+pub mod Tables
 pub mod Votes

@@ -17,6 +17,7 @@ use Rattle.chassis.specs.Ranges.{Fits, HasRange, IsWithin, are_within, is_within
 use Rattle.leg_packet.specs.Readings.{Readings, readings_of}
 use Rattle.leg_packet.specs.Views.{IsInViewOf}
 use Rattle.leg_packet.specs.declared.views.InView.{InView}
+use Rattle.tri_base.specs.Limits.{scan_time_limit}
 use Rattle.vote_analog.specs.Middle.{IsCount}
 use Rattle.input_legs.specs.Inner.Counts.{HoldsCounts}
 use Rattle.input_legs.specs.Inner.Shown.{shown_in}
@@ -60,21 +61,21 @@ all_counts (point ∷ points) (value ∷ values) fit h =
 -- Readings have a scan time and one value for each input, in its range.
 abbrev pub Stands : List Point → Option Readings → Type 0
 Stands points None = Unit {0}
-Stands points (Some r) = (pos 1 ≤ℤ r.time) × (r.time ≤ℤ pos 10000) × AllZip IsWithin points r.values
+Stands points (Some r) = (pos 1 ≤ℤ r.time) × (r.time ≤ℤ scan_time_limit) × AllZip IsWithin points r.values
 
 pub stands : (points : List Point) (p : List ℤ) → Stands (inputs_of points) (readings_of points p)
 stands points [] = tt
 stands points (word ∷ []) = tt
 stands points (word ∷ time ∷ values) =
-    by (int_eq word (pos 1) && int_le (pos 1) time && int_le time (pos 10000) && are_within (inputs_of points) values) refl
+    by (int_eq word (pos 1) && int_le (pos 1) time && int_le time (scan_time_limit) && are_within (inputs_of points) values) refl
   where
-    by : (t : Bool) → (int_eq word (pos 1) && int_le (pos 1) time && int_le time (pos 10000) && are_within (inputs_of points) values) ≡ t
+    by : (t : Bool) → (int_eq word (pos 1) && int_le (pos 1) time && int_le time (scan_time_limit) && are_within (inputs_of points) values) ≡ t
         → Stands (inputs_of points) (cond t (Some (record { time = time; values = values })) None)
     by true e =
-        let whole = and_parts (int_eq word (pos 1) && int_le (pos 1) time && int_le time (pos 10000)) (are_within (inputs_of points) values) e in
-        let times = and_parts (int_eq word (pos 1) && int_le (pos 1) time) (int_le time (pos 10000)) whole.0 in
+        let whole = and_parts (int_eq word (pos 1) && int_le (pos 1) time && int_le time (scan_time_limit)) (are_within (inputs_of points) values) e in
+        let times = and_parts (int_eq word (pos 1) && int_le (pos 1) time) (int_le time (scan_time_limit)) whole.0 in
         let heads = and_parts (int_eq word (pos 1)) (int_le (pos 1) time) times.0 in
-        (at_most (pos 1) time heads.1, at_most time (pos 10000) times.1, zip_within (inputs_of points) values whole.1)
+        (at_most (pos 1) time heads.1, at_most time (scan_time_limit) times.1, zip_within (inputs_of points) values whole.1)
     by false e = tt
 
 hold : (points : List Point) (r : Option Readings) → AllByRecursion Fits points → Stands points r → HoldsCounts r

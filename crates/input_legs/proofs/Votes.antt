@@ -11,11 +11,11 @@ use Rattle.tri_base.specs.declared.point.PointKind.TheVariants.{Di, Ai, Do, Ao}
 use Rattle.chassis.specs.Points.{inputs_of, is_input_kind}
 use Rattle.chassis.specs.Ranges.{Fits, HasRange, HoldsZero, IsWithin}
 use Rattle.leg_packet.specs.Readings.{Readings, readings_of}
-use Rattle.vote_discrete.specs.Majority.{majority, present as present_truths}
+use Rattle.vote_discrete.specs.Majority.{vote_of}
 use Rattle.vote_discrete.specs.Truths.{number, truths}
 use Rattle.vote_analog.specs.Middle.{LiesIn, LieIn}
 use Rattle.vote_analog.proofs.Ranges.{middle_in}
-use Rattle.input_legs.specs.VotedSheets.{column, read_three, reading_at, voted_from, voted_sheet, voted_value}
+use Rattle.input_legs.specs.VotedSheets.{column, read_three, reading_at, voted_from, vote_sheet_of, voted_value}
 use Rattle.input_legs.proofs.Readings.{Stands, stands}
 
 pub length_voted_from : (points : List Point) (input : ℕ) (rs : Triple (Option Readings))
@@ -49,8 +49,8 @@ number_in low high false l h = (grind (arith, ints), grind (arith, ints))
 
 value_in : (kind : PointKind) (low high tolerance : ℤ) (readings : Triple (Option ℤ)) → HasRange kind low high tolerance
     → LiesIn low high (Some (pos 0)) → LieIn low high readings → LiesIn low high (Some (voted_value kind readings))
-value_in Di low high tolerance readings r holds h = number_in low high (majority (present_truths (truths readings))) r.0 r.1
-value_in Do low high tolerance readings r holds h = number_in low high (majority (present_truths (truths readings))) r.0 r.1
+value_in Di low high tolerance readings r holds h = number_in low high (vote_of (truths readings)) r.0 r.1
+value_in Do low high tolerance readings r holds h = number_in low high (vote_of (truths readings)) r.0 r.1
 value_in Ai low high tolerance readings r holds h = middle_in low high readings holds h
 value_in Ao low high tolerance readings r holds h = middle_in low high readings holds h
 
@@ -75,7 +75,7 @@ from_first points None h = tt
 from_first points (Some r) h = subst (λ values. AllZip IsWithin points values) (sym (drop_none r.values)) h.2
 
 votes_in : (points : List Point) (packets : Triple (List ℤ)) → All Fits points → All HoldsZero points
-    → AllZip IsWithin (inputs_of points) (voted_sheet points packets).values
+    → AllZip IsWithin (inputs_of points) (vote_sheet_of points packets).values
 votes_in points packets fit holds =
     let inputs = inputs_of points in
     from_in inputs 0 (read_three points packets)
@@ -90,6 +90,6 @@ pub added_in : (points ps : List Point) (packets : Triple (List ℤ)) (rs : Trip
     → All Fits points → All HoldsZero points → ps ≡ points → rs ≡ read_three points packets → front ≡ []
     → out ≡ front ++ voted_from (inputs_of ps) 0 rs → AllZip IsWithin (inputs_of points) out
 added_in points ps packets rs front out fit holds same read none h =
-    let e : out ≡ (voted_sheet points packets).values =
+    let e : out ≡ (vote_sheet_of points packets).values =
     h ∙ ap (λ (x : List ℤ × List Point × Triple (Option Readings)). x.0 ++ voted_from (inputs_of x.1) 0 x.2) (λ i. (none i, same i, read i)) in
     subst (λ values. AllZip IsWithin (inputs_of points) values) (sym e) (votes_in points packets fit holds)

@@ -7,9 +7,9 @@ use Rattle.tri_base.specs.declared.point.PointKind.{PointKind}
 use Rattle.tri_base.specs.declared.point.PointKind.TheVariants.{Di, Ai, Do, Ao}
 use Rattle.chassis.specs.Points.{inputs_of}
 use Rattle.leg_packet.specs.Readings.{Readings}
-use Rattle.vote_discrete.specs.Majority.{dissenters}
+use Rattle.vote_discrete.specs.Majority.{dissent_of}
 use Rattle.vote_discrete.specs.Truths.{truths}
-use Rattle.vote_analog.specs.Middle.{deviations}
+use Rattle.vote_analog.specs.Middle.{deviates_of}
 use Rattle.input_legs.specs.VotedSheets.{column, read_three}
 
 -- So many disagreements in a row are a mark.
@@ -19,10 +19,10 @@ mark_count = 5
 -- Which legs disagree at a point: at a discrete one those that dissent from the majority, at an analogue one those that
 -- differ from the middle by more than the point's tolerance. An absent leg disagrees.
 abbrev pub disagreements : PointKind → (tolerance : ℤ) → Triple (Option ℤ) → Triple Bool
-disagreements Di tolerance words = dissenters (truths words)
-disagreements Do tolerance words = dissenters (truths words)
-disagreements Ai tolerance counts = deviations counts tolerance
-disagreements Ao tolerance counts = deviations counts tolerance
+disagreements Di tolerance words = dissent_of (truths words)
+disagreements Do tolerance words = dissent_of (truths words)
+disagreements Ai tolerance counts = deviates_of counts tolerance
+disagreements Ao tolerance counts = deviates_of counts tolerance
 
 -- A count of disagreements after one scan more: a mark stays, and an agreement begins anew.
 abbrev pub counted_on : ℕ → Bool → ℕ
@@ -42,8 +42,8 @@ counted_from (point ∷ points) input rs (row ∷ rows) =
     ∷ counted_from points (input + 1) rs rows
 
 -- All counts after one scan more, in which the legs showed three packets.
-abbrev pub counted_marks : List Point → Triple (List ℤ) → List (Triple ℕ) → List (Triple ℕ)
-counted_marks points packets rows = counted_from (inputs_of points) 0 (read_three points packets) rows
+abbrev pub note_of : List Point → Triple (List ℤ) → List (Triple ℕ) → List (Triple ℕ)
+note_of points packets rows = counted_from (inputs_of points) 0 (read_three points packets) rows
 
 -- No disagreements.
 abbrev pub no_row : Triple ℕ

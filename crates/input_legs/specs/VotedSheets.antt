@@ -7,9 +7,9 @@ use Rattle.tri_base.specs.declared.point.PointKind.{PointKind}
 use Rattle.tri_base.specs.declared.point.PointKind.TheVariants.{Di, Ai, Do, Ao}
 use Rattle.chassis.specs.Points.{inputs_of}
 use Rattle.leg_packet.specs.Readings.{Readings, readings_of}
-use Rattle.vote_discrete.specs.Majority.{majority, present as present_truths}
+use Rattle.vote_discrete.specs.Majority.{vote_of}
 use Rattle.vote_discrete.specs.Truths.{truths, number}
-use Rattle.vote_analog.specs.Middle.{middle, present}
+use Rattle.vote_analog.specs.Middle.{LiesBetween, mid_of}
 
 -- A scan time in milliseconds, and one value for each input in chassis order.
 pub record VotedSheet : Type 0 where
@@ -41,10 +41,10 @@ column rs input = record { a = reading_at rs.a input; b = reading_at rs.b input;
 
 -- What three readings of a point give: the majority at a discrete point, the middle at an analogue one.
 abbrev pub voted_value : PointKind → Triple (Option ℤ) → ℤ
-voted_value Di words = number (majority (present_truths (truths words)))
-voted_value Do words = number (majority (present_truths (truths words)))
-voted_value Ai counts = middle (present counts)
-voted_value Ao counts = middle (present counts)
+voted_value Di words = number (vote_of (truths words))
+voted_value Do words = number (vote_of (truths words))
+voted_value Ai counts = mid_of counts
+voted_value Ao counts = mid_of counts
 
 -- The votes at inputs of which the first stands at a place.
 abbrev pub voted_from : List Point → ℕ → Triple (Option Readings) → List ℤ
@@ -52,7 +52,28 @@ voted_from [] input rs = []
 voted_from (point ∷ points) input rs = voted_value point.kind (column rs input) ∷ voted_from points (input + 1) rs
 
 -- The middle of the scan times, and the votes at all inputs.
-abbrev pub voted_sheet : List Point → Triple (List ℤ) → VotedSheet
-voted_sheet points packets =
+abbrev pub vote_sheet_of : List Point → Triple (List ℤ) → VotedSheet
+vote_sheet_of points packets =
     let rs = read_three points packets in
-    record { time = middle (present (times_of rs)); values = voted_from (inputs_of points) 0 rs }
+    record { time = mid_of (times_of rs); values = voted_from (inputs_of points) 0 rs }
+
+-- Each value of a list lies between those of two others at its place.
+abbrev pub LieBetween : (xs ys values : List ℤ) → Type 0
+LieBetween [] [] [] = Unit {0}
+LieBetween (x ∷ xs) (y ∷ ys) (value ∷ values) = LiesBetween (Some x) (Some y) value × LieBetween xs ys values
+LieBetween _ _ _ = ⊥
+
+-- Time and values lie between those of two legs' readings.
+pub record SheetLiesBetween (r s : Readings) (v : VotedSheet) : Type 0 where
+  pub time : LiesBetween (Some r.time) (Some s.time) v.time
+  pub values : LieBetween r.values s.values v.values
+
+-- The same where both legs have readings.
+abbrev pub LiesBetweenTwo : Option Readings → Option Readings → VotedSheet → Type 0
+LiesBetweenTwo None s v = Unit {0}
+LiesBetweenTwo (Some r) None v = Unit {0}
+LiesBetweenTwo (Some r) (Some s) v = SheetLiesBetween r s v
+
+-- The same of any two of three legs.
+abbrev pub LiesBetweenAnyTwo : Triple (Option Readings) → VotedSheet → Type 0
+LiesBetweenAnyTwo rs v = LiesBetweenTwo rs.a rs.b v × LiesBetweenTwo rs.b rs.c v × LiesBetweenTwo rs.c rs.a v

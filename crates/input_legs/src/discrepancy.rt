@@ -43,7 +43,7 @@ impl Discrepancy {
     ghost use Rattle.std.specs.Prelude.{◌≡◌, ◌↔◌, ◌<◌, IsTrue, length, slice_index_or, IfOk};
     ghost use Rattle.tri_base.specs.Legs.{leg_part};
     ghost use Rattle.chassis.specs.Points.{inputs_of};
-    ghost use Rattle.input_legs.specs.Marks.{counted_marks, has_mark, mark_count, no_marks, no_row};
+    ghost use Rattle.input_legs.specs.Marks.{has_mark, mark_count, no_marks, no_row, note_of};
 
     /// No disagreements, at as many inputs as the chassis has.
     pub fn new(alloc: Global, chassis: &Chassis) -> Result<Discrepancy, NoMemory>
@@ -62,7 +62,7 @@ impl Discrepancy {
     pub fn note(&mut self, chassis: &Chassis, a: &Packet, b: &Packet, c: &Packet)
         requires { length self.old ≡ length (inputs_of chassis.now) }
         ensures counted { self.new
-            ≡ counted_marks chassis.now (record { a = a.now; b = b.now; c = c.now }) self.old }
+            ≡ note_of chassis.now (record { a = a.now; b = b.now; c = c.now }) self.old }
         ensures length { length self.new ≡ length self.old }
     {
         let shown = read_three(chassis, a, b, c);

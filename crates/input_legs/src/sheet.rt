@@ -3,8 +3,9 @@ ghost use Rattle.std.specs.List.{AllZip};
 ghost use Rattle.tri_base.specs.Rows.{HasRoom, KeepsRoom};
 ghost use Rattle.chassis.specs.Points.{inputs_of};
 ghost use Rattle.chassis.specs.Ranges.{IsWithin};
-ghost use Rattle.vote_analog.specs.Middle.{AreCounts, middle, present};
-ghost use Rattle.input_legs.specs.VotedSheets.{times_of, voted_from, voted_sheet, voted_value};
+ghost use Rattle.tri_base.specs.Limits.{scan_time_limit};
+ghost use Rattle.vote_analog.specs.Middle.{AreCounts, mid_of};
+ghost use Rattle.input_legs.specs.VotedSheets.{times_of, vote_sheet_of, voted_from, voted_value};
 ghost use Rattle.input_legs.specs.Inner.Counts.{HoldCounts};
 ghost use Rattle.input_legs.specs.Inner.Shown.{three_shown};
 
@@ -22,11 +23,11 @@ use vote_discrete::{truths, vote};
 pub fn vote_sheet(chassis: &Chassis, a: &Packet, b: &Packet, c: &Packet, voted: &mut Voted)
     requires { HasRoom (length (inputs_of chassis.now)) voted.old.values }
     ensures time { voted.new.dt
-        ≡ (voted_sheet chassis.now (record { a = a.now; b = b.now; c = c.now })).time }
+        ≡ (vote_sheet_of chassis.now (record { a = a.now; b = b.now; c = c.now })).time }
     ensures values { voted.new.values.list
-        ≡ (voted_sheet chassis.now (record { a = a.now; b = b.now; c = c.now })).values }
+        ≡ (vote_sheet_of chassis.now (record { a = a.now; b = b.now; c = c.now })).values }
     ensures from { pos 0 ≤ℤ voted.new.dt }
-    ensures to { voted.new.dt ≤ℤ pos 10_000 }
+    ensures to { voted.new.dt ≤ℤ scan_time_limit }
     ensures count { length voted.new.values.list ≡ length (inputs_of chassis.now) }
     ensures within { AllZip IsWithin (inputs_of chassis.now) voted.new.values.list }
     ensures room { KeepsRoom voted.old.values voted.new.values }
@@ -40,9 +41,9 @@ pub fn vote_sheet(chassis: &Chassis, a: &Packet, b: &Packet, c: &Packet, voted: 
 /// The middle of the scan times.
 fn voted_time(shown: &Triple<Option<InView<'_>>>) -> i64
     requires { HoldCounts (three_shown shown.now) }
-    ensures time { result ≡ middle (present (times_of (three_shown shown.now))) }
+    ensures time { result ≡ mid_of (times_of (three_shown shown.now)) }
     ensures from { pos 0 ≤ℤ result }
-    ensures to { result ≤ℤ pos 10_000 }
+    ensures to { result ≤ℤ scan_time_limit }
 {
     mid(times_of(shown))
 }

@@ -1,5 +1,6 @@
 ghost use Rattle.std.specs.Prelude.{◌≡◌, pos, length};
 ghost use Rattle.chassis.specs.Points.{inputs_of};
+ghost use Rattle.tri_base.specs.Limits.{scan_time_limit};
 ghost use Rattle.leg_packet.specs.Readings.{readings_of};
 ghost use Rattle.vote_analog.specs.Middle.{AreCounts, IsCount, LieIn, LiesIn};
 ghost use Rattle.input_legs.specs.VotedSheets.{column, read_three, reading_at, time_of, times_of};
@@ -42,7 +43,7 @@ pub fn times_of(shown: &Triple<Option<InView<'_>>>) -> Triple<Option<i64>>
     requires { HoldCounts (three_shown shown.now) }
     ensures times { result ≡ times_of (three_shown shown.now) }
     ensures counts { AreCounts result }
-    ensures range { LieIn (pos 0) (pos 10_000) result }
+    ensures range { LieIn (pos 0) scan_time_limit result }
 {
     Triple {
         a: time_of(&shown.a),
@@ -55,7 +56,7 @@ fn time_of(shown: &Option<InView<'_>>) -> Option<i64>
     requires { HoldsCounts (shown_in shown.now) }
     ensures time { result ≡ time_of (shown_in shown.now) }
     ensures count { IsCount result }
-    ensures range { LiesIn (pos 0) (pos 10_000) result }
+    ensures range { LiesIn (pos 0) scan_time_limit result }
 {
     let view = shown.as_ref()?;
     Some(view.dt)

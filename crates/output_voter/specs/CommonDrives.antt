@@ -1,6 +1,6 @@
 -- The field outputs: the vote of the three legs' drives, output by output (own rule). A drive has one word for each
 -- output, in chassis order.
-use Rattle.std.specs.Prelude.{ℕ, ℤ, pos, ◌+◌, ◌==◌, List, [], ◌∷◌, length, Option, Some, None, slice_get, if◌then◌else◌}
+use Rattle.std.specs.Prelude.{◌≡◌, ◌⊎◌, ℕ, ℤ, pos, ◌+◌, ◌==◌, List, [], ◌∷◌, length, Option, Some, None, slice_get, if◌then◌else◌}
 use Rattle.std.specs.Ordering.{int_eq}
 use Rattle.tri_base.specs.declared.leg.Triple.{Triple}
 use Rattle.tri_base.specs.declared.point.Point.{Point}
@@ -62,6 +62,12 @@ whole_drives outputs drives =
     record { a = whole_drive outputs drives.a; b = whole_drive outputs drives.b; c = whole_drive outputs drives.c }
 
 -- The field outputs of a chassis.
-abbrev pub common_drives : List Point → Triple (Option (List ℤ)) → List ℤ
-common_drives points drives =
+abbrev pub vote_drives_of : List Point → Triple (Option (List ℤ)) → List ℤ
+vote_drives_of points drives =
     let outputs = outputs_of points in common_from outputs 0 (whole_drives (length outputs) drives)
+
+-- Two of three legs drive these words.
+abbrev pub TwoDrive : List ℤ → Triple (Option (List ℤ)) → Type 0
+TwoDrive words drives =
+    ((drives.a ≡ Some words) × (drives.b ≡ Some words)) ⊎ ((drives.b ≡ Some words) × (drives.c ≡ Some words))
+    ⊎ ((drives.c ≡ Some words) × (drives.a ≡ Some words))

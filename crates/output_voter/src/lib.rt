@@ -2,6 +2,7 @@
 #![tactic(auto)]
 
 mod drive;
+pub mod laws;
 #[cfg(test)]
 mod tests;
 mod voter;

@@ -4,7 +4,7 @@ ghost use Rattle.tri_base.specs.Rows.{HasRoom, KeepsRoom};
 ghost use Rattle.chassis.specs.Points.{outputs_of};
 ghost use Rattle.chassis.specs.Ranges.{Fits, IsWithin};
 ghost use Rattle.vote_analog.specs.Middle.{present};
-ghost use Rattle.output_voter.specs.CommonDrives.{common_drive, common_drives, common_from, drives_at};
+ghost use Rattle.output_voter.specs.CommonDrives.{common_drive, vote_drives_of, common_from, drives_at};
 ghost use Rattle.output_voter.specs.Inner.Slices.{slice_in};
 ghost use Rattle.output_voter.specs.Lent.{words_in};
 
@@ -26,7 +26,7 @@ pub fn vote_drives(
     out: &mut Words,
 )
     requires { HasRoom (length (outputs_of chassis.now)) out.old }
-    ensures drives { out.new.list ≡ common_drives chassis.now
+    ensures drives { out.new.list ≡ vote_drives_of chassis.now
         (record { a = words_in a.entry; b = words_in b.entry; c = words_in c.entry }) }
     ensures count { length out.new.list ≡ length (outputs_of chassis.now) }
     ensures within { AllZip IsWithin (outputs_of chassis.now) out.new.list }

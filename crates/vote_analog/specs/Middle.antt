@@ -15,6 +15,10 @@ middle (a ∷ b ∷ c ∷ more) = int_max (int_min a b) (int_min (int_max a b) c
 abbrev pub present : Triple (Option ℤ) → List ℤ
 present counts = option_to_list counts.a ++ option_to_list counts.b ++ option_to_list counts.c
 
+-- The middle of the counts that are there.
+abbrev pub mid_of : Triple (Option ℤ) → ℤ
+mid_of counts = middle (present counts)
+
 -- A count of 16 bits, where there is one.
 abbrev pub IsCount : Option ℤ → Type 0
 IsCount None = Unit {0}
@@ -41,9 +45,9 @@ is_off middle tolerance None = true
 is_off middle tolerance (Some count) = int_lt tolerance (pos (unsigned_abs (count -ℤ middle)))
 
 -- Which legs deviate.
-abbrev pub deviations : Triple (Option ℤ) → ℤ → Triple Bool
-deviations counts tolerance =
-    let m = middle (present counts) in
+abbrev pub deviates_of : Triple (Option ℤ) → (tolerance : ℤ) → Triple Bool
+deviates_of counts tolerance =
+    let m = mid_of counts in
     record { a = is_off m tolerance counts.a; b = is_off m tolerance counts.b; c = is_off m tolerance counts.c }
 
 -- A count that is there lies between two ends.

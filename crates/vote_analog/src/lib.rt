@@ -3,7 +3,7 @@
 
 ghost use Rattle.std.specs.Prelude.{◌≡◌, ◌≤ℤ◌, [], ◌∷◌, Some};
 ghost use Rattle.std.specs.Int.{int_min, int_max};
-ghost use Rattle.vote_analog.specs.Middle.{AreCounts, IsCount, LiesBetween, LiesBetweenAny, deviations, is_off, middle, present};
+ghost use Rattle.vote_analog.specs.Middle.{AreCounts, IsCount, LiesBetween, LiesBetweenAny, deviates_of, is_off, mid_of, middle};
 
 use tri_base::Triple;
 
@@ -13,7 +13,7 @@ pub mod laws;
 /// 0. A reading is a count of 16 bits, and None is absent.
 pub fn mid(readings: Triple<Option<i64>>) -> i64
     requires { AreCounts readings }
-    ensures middle { result ≡ middle (present readings) }
+    ensures middle { result ≡ mid_of readings }
     ensures between { LiesBetweenAny readings result }
     ensures count { IsCount (Some result) }
 {
@@ -32,7 +32,7 @@ pub fn mid(readings: Triple<Option<i64>>) -> i64
 /// TRUE for each leg whose reading is absent or differs from the vote by more than the tolerance.
 pub fn deviates(readings: Triple<Option<i64>>, tolerance: i64) -> Triple<bool>
     requires { AreCounts readings }
-    ensures { result ≡ deviations readings tolerance }
+    ensures { result ≡ deviates_of readings tolerance }
 {
     let middle = mid(readings);
     Triple {

@@ -2,7 +2,7 @@
 #![tactic(auto)]
 
 ghost use Rattle.std.specs.Prelude.{◌≡◌, false, []};
-ghost use Rattle.vote_discrete.specs.Majority.{majority, present, dissenters, TwoEqualWin, OneAloneDecides};
+ghost use Rattle.vote_discrete.specs.Majority.{vote_of, present, dissent_of, TwoEqualWin, OneAloneDecides};
 ghost use Rattle.vote_discrete.specs.Truths.{truths};
 
 use tri_base::Triple;
@@ -21,7 +21,7 @@ pub fn truths(words: Triple<Option<i64>>) -> Triple<Option<bool>>
 /// The value that two of three readings have; of two readings TRUE only where both are; of one that
 /// one; of none FALSE. A reading of None is absent.
 pub fn vote(readings: Triple<Option<bool>>) -> bool
-    ensures majority { result ≡ majority (present readings) }
+    ensures majority { result ≡ vote_of readings }
     ensures two_equal_win { TwoEqualWin readings result }
     ensures one_alone_decides { OneAloneDecides readings result }
     ensures none_is_false { present readings ≡ [] → result ≡ false }
@@ -40,7 +40,7 @@ pub fn vote(readings: Triple<Option<bool>>) -> bool
 
 /// TRUE for each leg whose reading is absent or differs from the vote.
 pub fn dissent(readings: Triple<Option<bool>>) -> Triple<bool>
-    ensures { result ≡ dissenters readings }
+    ensures { result ≡ dissent_of readings }
 {
     let voted = vote(readings);
     Triple {
