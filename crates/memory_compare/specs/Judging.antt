@@ -1,6 +1,6 @@
 -- What a running leg makes of its own result and its neighbours'. Own rule.
 use Rattle.std.specs.Prelude.{ℤ, Bool, true, false, ◌&&◌, List, Some, None, is_some}
-use lib.Pointwise.{pointwise}
+use Rattle.std.specs.Cmp.Lexicographic.{pointwise}
 use Rattle.std.specs.Ordering.{int_eq}
 use Rattle.tri_base.specs.declared.leg.Side.TheVariants.{Left, Right}
 use Rattle.leg_packet.specs.Sheets.{sheet_of}
@@ -25,5 +25,5 @@ judged_by false false false = NoVote
 
 -- Minority where the neighbours have one running result and the leg another. Else Agrees with the neighbours that have
 -- the leg's own result, accusing the other one; NoVote where neither has it.
-abbrev pub judgement : (own left right : List ℤ) → Judgement
-judgement own left right = judged_by (same_words own left) (same_words own right) (are_one_result left right)
+abbrev pub judge_of : (own left right : List ℤ) → Judgement
+judge_of own left right = judged_by (same_words own left) (same_words own right) (are_one_result left right)

@@ -1,5 +1,5 @@
 ghost use Rattle.std.specs.Prelude.{◌≡◌};
-ghost use Rattle.memory_compare.specs.Judging.{judgement, are_one_result};
+ghost use Rattle.memory_compare.specs.Judging.{are_one_result, judge_of};
 
 use leg_packet::{Packet, read_out};
 use tri_base::Side;
@@ -21,7 +21,7 @@ pub enum Judgement {
 /// Compares a leg's own result with what its neighbours put. It goes over each packet a fixed
 /// number of times and takes no memory.
 pub fn judge(own: &Packet, left: &Packet, right: &Packet) -> Judgement
-    ensures { result ≡ judgement own.now left.now right.now }
+    ensures { result ≡ judge_of own.now left.now right.now }
 {
     let own_is_left = own.words() == left.words();
     let own_is_right = own.words() == right.words();
