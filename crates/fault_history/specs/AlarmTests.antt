@@ -26,8 +26,8 @@ drives out (Some words) = pointwise int_eq words out
 
 -- From the three legs' notes and the voted outputs: a main processor that doesn't agree, a marked input, a drive that
 -- is absent or differs from the outputs, and the flag ARITH of two legs.
-abbrev pub alarms : (a b c : NoteData) (out : List ℤ) → Alarms
-alarms a b c out = record {
+abbrev pub alarms_of : (a b c : NoteData) (out : List ℤ) → Alarms
+alarms_of a b c out = record {
   mp = not (agrees a.judged && agrees b.judged && agrees c.judged);
   input = a.marked || b.marked || c.marked;
   output = not (drives out a.drive && drives out b.drive && drives out c.drive);

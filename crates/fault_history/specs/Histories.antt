@@ -25,10 +25,10 @@ abbrev pub last_entries : List Entry → List Entry
 last_entries entries = drop (length entries - history_limit) entries
 
 -- The history after one more judgement.
-abbrev pub noted_entry : List Entry → Entry → List Entry
-noted_entry entries entry = if is_kept entry.judged then last_entries (entries ++ entry ∷ []) else entries
+abbrev pub note_of : List Entry → Entry → List Entry
+note_of entries entry = if is_kept entry.judged then last_entries (entries ++ entry ∷ []) else entries
 
 -- However many judgements are noted one after another, the history is the last of those that are kept.
 abbrev pub KeepsTheLast : Type 0
 KeepsTheLast =
-    (entries : List Entry) → fold noted_entry [] entries ≡ last_entries (filter (λ e. is_kept e.judged) entries)
+    (entries : List Entry) → fold note_of [] entries ≡ last_entries (filter (λ e. is_kept e.judged) entries)

@@ -1,6 +1,6 @@
 ghost use Rattle.std.specs.Prelude.{◌≡◌, List, ℤ, option_map};
 ghost use Rattle.fault_history.specs.Notes.{note_data};
-ghost use Rattle.fault_history.specs.AlarmTests.{agrees, alarms, drives};
+ghost use Rattle.fault_history.specs.AlarmTests.{agrees, alarms_of, drives};
 
 use crate::note::Note;
 use tri_base::{Judged, Triple, Words};
@@ -21,7 +21,8 @@ pub struct Alarms {
 
 /// The alarms of a scan, from the three legs' notes of it and the values of the outputs.
 pub fn alarms_of(a: &Note, b: &Note, c: &Note, out: &Words) -> Alarms
-    ensures { result ≡ alarms (note_data a.now) (note_data b.now) (note_data c.now) out.now.list }
+    ensures { result
+        ≡ alarms_of (note_data a.now) (note_data b.now) (note_data c.now) out.now.list }
 {
     Alarms {
         mp: !(in_agreement(a.judged) && in_agreement(b.judged) && in_agreement(c.judged)),

@@ -35,7 +35,7 @@ impl Model for History {
 
 impl History {
     ghost use Rattle.std.specs.Prelude.{◌≡◌, ◌≤◌, [], length, IfOk, slice_get};
-    ghost use Rattle.fault_history.specs.Histories.{history_limit, noted_entry};
+    ghost use Rattle.fault_history.specs.Histories.{history_limit, note_of};
     ghost use Rattle.fault_history.specs.declared.history.Entry.{Entry};
 
     /// A history with no entry, and room for all that it keeps.
@@ -50,7 +50,7 @@ impl History {
     /// The oldest of 64 entries is dropped for it. It takes no memory.
     pub fn note(&mut self, scan: u32, leg: Leg, judged: Judged)
         ensures { let entry : Entry = record { scan = scan; leg = leg; judged = judged } in
-            self.new ≡ noted_entry self.old entry }
+            self.new ≡ note_of self.old entry }
     {
         match judged {
             Judged::Accuses(_)
