@@ -10,9 +10,9 @@ use Rattle.re_education.specs.Inner.Headers.{lesson_in, lesson_kept}
 use Rattle.memory_compare.specs.Changes.{applied}
 use Rattle.memory_compare.specs.Windows.{written}
 use Rattle.re_education.specs.Lessons.{LearnerValue}
-use Rattle.re_education.specs.Inner.Kept.{IsKept, KeptLesson, does_expect, next_lesson}
+use Rattle.re_education.specs.Inner.Kept.{does_expect, next_lesson}
 use Rattle.leg_packet.specs.Sheets.{Sheet, IsCanonical, IsByte}
-use Rattle.re_education.specs.Learning.{Lesson, taught, expects, held, nothing_held, sheet_windows, next_turn}
+use Rattle.re_education.specs.Learning.{IsKept, KeptLesson, Lesson, taught, expects, held, nothing_held, sheet_windows, next_turn}
 
 pub length_applied : (behind : ℕ) (pairs : List (ℕ × ℤ)) (image : List ℤ) → length (applied behind pairs image) ≡ length image
 length_applied behind [] image = refl

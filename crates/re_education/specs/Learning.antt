@@ -1,6 +1,8 @@
 -- How a leg learns the memory that its two neighbours show, window by window. Own rule.
-use Rattle.std.specs.Prelude.{ℕ, ℤ, pos, nat_abs, ◌+◌, ◌*◌, ◌%◌, ◌==◌, ◌&&◌, nat_lt, Bool, true, false, List, [], ◌∷◌, take, drop, map, replicate, Option, Some, None, if◌then◌else◌}
-use Rattle.leg_packet.specs.Sheets.{Sheet, sheet_of, windows_of}
+use Rattle.std.specs.Prelude.{◌≡◌, ℕ, ℤ, pos, nat_abs, ◌+◌, ◌*◌, ◌%◌, ◌≤◌, ◌<◌, ◌==◌, ◌&&◌, nat_lt, Bool, true, false, List, [], ◌∷◌, length, take, drop, map, replicate, Option, Some, None, if◌then◌else◌}
+use Rattle.std.specs.List.{All}
+use Rattle.tri_base.specs.Limits.{text_limit, word_limit}
+use Rattle.leg_packet.specs.Sheets.{IsByte, Sheet, epoch_limit, sheet_of, windows_of}
 use Rattle.memory_compare.specs.Changes.{applied}
 use Rattle.memory_compare.specs.Windows.{written}
 use Rattle.memory_compare.specs.Judging.{same_words}
@@ -14,6 +16,23 @@ pub record Lesson : Type 0 where
   pub word_length : ℕ
   pub turn : ℕ
   pub windows : ℕ
+
+-- What holds of each lesson that is kept: the image has as many numbers as the lengths say, of which those of the text
+-- are bytes; some windows are learned, and not all; and each number is within its limit.
+pub record IsKept (z : Lesson) : Type 0 where
+  pub image_length : length z.image ≡ z.text_length + z.word_length
+  pub bytes : All IsByte (take z.text_length z.image)
+  pub some : 0 < z.windows
+  pub not_all : z.windows < windows_of (z.text_length + z.word_length)
+  pub turn : z.turn < windows_of (z.text_length + z.word_length)
+  pub text_length : z.text_length ≤ text_limit
+  pub word_length : z.word_length ≤ word_limit
+  pub epoch : z.epoch ≤ epoch_limit
+
+-- The same where there is one.
+abbrev pub KeptLesson : Option Lesson → Type 0
+KeptLesson None = Unit {0}
+KeptLesson (Some z) = IsKept z
 
 -- An image in which a running result's changes are set, at their addresses behind the text, and then its window.
 abbrev pub taught : Sheet → List ℤ → List ℤ
@@ -77,18 +96,18 @@ with_window s image windows =
       words = drop s.text_length image;
     })
 
--- What comes of one running result: it adds one window.
-abbrev pub learned_of : Option Lesson → Option Sheet → Outcome
-learned_of lesson None = Waits
-learned_of lesson (Some s) = let h = held lesson s in with_window s (taught s h.image) (h.windows + 1)
+-- What comes of one running result: it adds one window. Without one the leg waits.
+abbrev pub with_result : Option Lesson → Option Sheet → Outcome
+with_result lesson None = Waits
+with_result lesson (Some s) = let h = held lesson s in with_window s (taught s h.image) (h.windows + 1)
 
 -- The running result that two packets both are.
 abbrev pub shown_by_both : (left right : List ℤ) → Option Sheet
 shown_by_both left right = if same_words left right then sheet_of left else None
 
 -- What comes of two packets.
-abbrev pub learned : Option Lesson → (left right : List ℤ) → Outcome
-learned lesson left right = learned_of lesson (shown_by_both left right)
+abbrev pub learn_of : Option Lesson → (left right : List ℤ) → Outcome
+learn_of lesson left right = with_result lesson (shown_by_both left right)
 
 -- The whole memory is there.
 abbrev pub does_end : Outcome → Bool

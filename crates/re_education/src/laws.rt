@@ -6,9 +6,9 @@ ghost use Rattle.tri_base.specs.Limits.{text_limit, word_limit};
 
 use leg_packet::laws::spells_what_is_read;
 
-/// No packet shows a memory of more than 20,480 words, text and words together.
+/// No two packets show a memory of more than 20,480 numbers, text and words together.
 pub fn sizes_are_small()
-    ensures { (p : List ℤ) → size_shown p ≤ text_limit + word_limit }
+    ensures { (left right : List ℤ) → size_shown left right ≤ text_limit + word_limit }
 {
     spells_what_is_read();
 }

@@ -25,7 +25,7 @@ pub struct Learner {
 impl Model for Learner {
     ghost use Rattle.tri_base.specs.Rows.{HasRoom};
     ghost use Rattle.re_education.specs.Lessons.{LearnerValue};
-    ghost use Rattle.re_education.specs.Inner.Kept.{KeptLesson};
+    ghost use Rattle.re_education.specs.Learning.{KeptLesson};
     ghost use Rattle.re_education.specs.Inner.Headers.{lesson_kept};
 
     ghost Value = { LearnerValue };
@@ -39,7 +39,7 @@ impl Model for Learner {
 impl Learner {
     ghost use Rattle.std.specs.Prelude.{◌≡◌, ◌+◌, ◌≤◌, ◌<◌, None, Some, false, IsOk, OnOk, OnErr, IfOk};
     ghost use Rattle.re_education.specs.Learned.{Learns, ImageIsBounded};
-    ghost use Rattle.re_education.specs.Learning.{Goes_on, Ends, held, learned, learned_of, does_end, sheet_windows};
+    ghost use Rattle.re_education.specs.Learning.{Goes_on, Ends, KeptLesson, held, learn_of, with_result, does_end, sheet_windows};
     ghost use Rattle.re_education.specs.Lessons.{windows_in, size_shown};
     ghost use Rattle.re_education.specs.Inner.Kept.{does_expect, next_lesson, whole_of};
     ghost use Rattle.re_education.specs.Inner.Shown.{IsSound, sheet_in};
@@ -57,7 +57,8 @@ impl Learner {
 
     /// How many windows are learned.
     pub fn windows(&self) -> u32
-        ensures { result ≡ windows_in self.now.lesson }
+        ensures windows { result ≡ windows_in self.now.lesson }
+        ensures kept { KeptLesson self.now.lesson }
     {
         self.header.windows
     }
@@ -88,13 +89,14 @@ impl Learner {
         left: &Packet,
         right: &Packet,
     ) -> Result<Progress, NoMemory>
-        ensures learned { Learns (learned self.old.lesson left.now right.now)
+        ensures learned { Learns (learn_of self.old.lesson left.now right.now)
             result self.new.lesson }
         ensures room { OnOk result (self.old.room ≤ self.new.room) }
         ensures err { OnErr result (self.new ≡ self.old) }
-        ensures serves { size_shown left.now ≤ self.old.room
-            → does_end (learned self.old.lesson left.now right.now) ≡ false → IsOk result }
+        ensures serves { size_shown left.now right.now ≤ self.old.room
+            → does_end (learn_of self.old.lesson left.now right.now) ≡ false → IsOk result }
         ensures image { IfOk result ImageIsBounded }
+        ensures kept { KeptLesson self.new.lesson }
     {
         match both_show(left, right) {
             Some(shown) => self.learn_shown(alloc, &shown),
@@ -115,14 +117,15 @@ impl Learner {
     /// Learns what two packets show.
     fn learn_shown(&mut self, alloc: Global, shown: &Shown<'_>) -> Result<Progress, NoMemory>
         requires { IsSound shown.now }
-        ensures learned { Learns (learned_of self.old.lesson (Some (sheet_in shown.now)))
+        ensures learned { Learns (with_result self.old.lesson (Some (sheet_in shown.now)))
             result self.new.lesson }
         ensures room { OnOk result (self.old.room ≤ self.new.room) }
         ensures err { OnErr result (self.new ≡ self.old) }
         ensures serves { shown.now.text_length + shown.now.word_length ≤ self.old.room
-            → does_end (learned_of self.old.lesson (Some (sheet_in shown.now))) ≡ false
+            → does_end (with_result self.old.lesson (Some (sheet_in shown.now))) ≡ false
             → IsOk result }
         ensures image { IfOk result ImageIsBounded }
+        ensures kept { KeptLesson self.new.lesson }
     {
         let known = self.expects(shown);
         let count = self.windows_with(shown, known);
@@ -134,7 +137,8 @@ impl Learner {
 
     /// Whether this is the window that is expected next.
     fn expects(&self, shown: &Shown<'_>) -> bool
-        ensures { result ≡ does_expect self.now.lesson (sheet_in shown.now) }
+        ensures expects { result ≡ does_expect self.now.lesson (sheet_in shown.now) }
+        ensures kept { KeptLesson self.now.lesson }
     {
         self.header.windows > 0
             && self.header.epoch == shown.epoch
@@ -167,6 +171,7 @@ impl Learner {
         ensures serves { shown.now.text_length + shown.now.word_length ≤ self.old.room
             → IsOk result }
         ensures image { IfOk result ImageIsBounded }
+        ensures kept { KeptLesson self.new.lesson }
     {
         hold(
             &mut self.image,
@@ -187,6 +192,7 @@ impl Learner {
         known: bool,
     ) -> Result<Progress, NoMemory>
         requires sound { IsSound shown.now }
+        requires kept { KeptLesson self.old.lesson }
         requires known { known ≡ does_expect self.old.lesson (sheet_in shown.now) }
         ensures learned { Learns
             (Ends (whole_of (next_lesson self.old.lesson (sheet_in shown.now))))
@@ -194,6 +200,7 @@ impl Learner {
         ensures room { OnOk result (self.old.room ≤ self.new.room) }
         ensures err { OnErr result (self.new ≡ self.old) }
         ensures image { IfOk result ImageIsBounded }
+        ensures kept { KeptLesson self.new.lesson }
     {
         let mut text = Text::new(alloc);
         text.reserve(shown.text_length)?;

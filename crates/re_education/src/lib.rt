@@ -13,3 +13,6 @@ mod teaching;
 
 pub use learner::Learner;
 pub use progress::{Image, Progress};
+
+#[cfg(test)]
+mod tests;

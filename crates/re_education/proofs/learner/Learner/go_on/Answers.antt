@@ -19,3 +19,12 @@ invariant_of-self-2 c =
       kept_after c.teach.new.image.list c.next_header-self-inside.result _ is (next_kept v.lesson s c.args.known r.image.list c.requires.sound.canonical so (omega (arith, c.requires.count, c.requires.few))),
       room_after s c.teach.new.image.list c.hold.new.image.list c.hold.new.image.spare c.teach.new.image.spare c.hold.new.room c.requires.sound.canonical (ap length c.in_ok-hold.ensures.list ∙ so.image_length) c.teach.ensures.list c.teach.ensures.room c.hold.ensures.kept,
     )
+
+pub returns-clause-kept : goal.returns-clause-kept
+returns-clause-kept c =
+    let r = c.self.inside in let s = sheet_in c.args.shown.now in let v = c.args.self.now in
+    let so = held_with r.image.list r.header r.room v s c.args.known c.self.view_is c.self.invariant.0 c.requires.known in
+    let is = after_is v.lesson s c.args.known r.image.list c.teach.new.image.list c.next_header-self-inside.result c.args.count so
+    (c.teach.ensures.list ∙ ap (taught s) c.in_ok-hold.ensures.list) c.next_header-self-inside.ensures c.requires.count in
+    kept_after c.teach.new.image.list c.next_header-self-inside.result _ is
+    (next_kept v.lesson s c.args.known r.image.list c.requires.sound.canonical so (omega (arith, c.requires.count, c.requires.few)))

@@ -2,10 +2,8 @@ use Rattle.std.proofs.Common.{sym, ap, subst, ◌∙◌, ◌≤◌}
 use Rattle.std.specs.Prelude.{Ok}
 use Rattle.re_education.specs.declared.progress.Progress.{Progress}
 use Rattle.re_education.specs.declared.progress.Progress.TheVariants.{Waiting}
-use Rattle.leg_packet.specs.Sheets.{sheet_of}
-use Rattle.memory_compare.specs.Judging.{same_words}
 use Rattle.re_education.specs.Learned.{Learns}
-use Rattle.re_education.specs.Learning.{shown_by_both, learned_of, does_end}
+use Rattle.re_education.specs.Learning.{shown_by_both, with_result, does_end}
 use Rattle.re_education.proofs.Both.{told_sound, told, nothing_told, size_told}
 use Rattle.re_education.proofs.learner.Learner.learn.Goals as goal
 
@@ -19,11 +17,11 @@ returns-in-Some-clause-learned c =
 pub returns-in-Some-clause-serves : goal.returns-in-Some-clause-serves
 returns-in-Some-clause-serves c = λ room goes_on.
     c.learn_shown.ensures.serves
-    (subst (λ n. n ≤ c.args.self.now.room) (sym (size_told (same_words c.args.left.now c.args.right.now) (sheet_of c.args.left.now) c.in-Some.shown c.in-Some.ensures)) room)
+    (subst (λ n. n ≤ c.args.self.now.room) (sym (size_told (shown_by_both c.args.left.now c.args.right.now) c.in-Some.shown c.in-Some.ensures)) room)
     (ap does_end (told c.args.self.now.lesson (shown_by_both c.args.left.now c.args.right.now) c.in-Some.shown c.in-Some.ensures) ∙ goes_on)
 
 pub returns-in-None-clause-learned : goal.returns-in-None-clause-learned
 returns-in-None-clause-learned c =
     let waits = sym (nothing_told c.args.self.now.lesson (shown_by_both c.args.left.now c.args.right.now) c.in-None.ensures) in
-    subst (λ (p : Progress). Learns (learned_of c.args.self.now.lesson (shown_by_both c.args.left.now c.args.right.now)) (Ok p) c.wait.new.self.lesson) (sym c.wait.ensures.answer)
+    subst (λ (p : Progress). Learns (with_result c.args.self.now.lesson (shown_by_both c.args.left.now c.args.right.now)) (Ok p) c.wait.new.self.lesson) (sym c.wait.ensures.answer)
     (subst (λ o. Learns o (Ok Waiting) c.wait.new.self.lesson) waits c.wait.ensures.lesson)
