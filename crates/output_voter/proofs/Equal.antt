@@ -1,6 +1,6 @@
 -- Two equal drives are what is voted.
 use Rattle.std.specs.Prelude.{Option, Some, None, slice_get, int_le}
-use Rattle.std.proofs.Common.{◌≡◌, ◌⊎◌, inl, inr, ℕ, zero, suc, ◌+◌, ◌==◌, ℤ, pos, negsuc, ◌≤ℤ◌, Bool, true, false, ◌&&◌, not, cond, List, [], ◌∷◌, length, drop, refl, sym, ap, subst, ◌∙◌, arith}
+use Rattle.std.proofs.Common.{◌≡◌, ◌⊎◌, inl, inr, ℕ, zero, suc, ◌+◌, ℤ, pos, negsuc, ◌≤ℤ◌, Bool, true, false, ◌&&◌, not, cond, List, [], ◌∷◌, length, drop, refl, sym, ap, subst, ◌∙◌, arith}
 use Rattle.std.specs.List.{All, AllByRecursion, AllZip}
 use Rattle.std.specs.Ordering.{int_eq}
 use Rattle.std.proofs.lemmas.Bool.{eq-eqb}
@@ -16,7 +16,7 @@ use Rattle.chassis.specs.Ranges.{Fits, HasRange, IsDiscreteRange, IsWithin, is_w
 use Rattle.vote_discrete.specs.Majority.{two_of_three}
 use Rattle.vote_discrete.specs.Truths.{is_on, number}
 use Rattle.vote_analog.specs.Middle.{middle, present}
-use Rattle.output_voter.specs.CommonDrives.{TwoDrive, common_drive, common_from, common_of_two, common_of_three, drive_at, drives_at, vote_drives_of, whole_drive, whole_drives, word_in_range}
+use Rattle.output_voter.specs.CommonDrives.{TwoDrive, common_drive, common_from, common_of_two, drive_at, drives_at, vote_drives_of, whole_drive, whole_drives, word_in_range}
 
 -- ---- one output
 
