@@ -48,7 +48,7 @@ behind points before (t ∷ tags) h =
     let parts = none_both (name_faults points (list_any (bytes_eq t.name) before) t) (names_faults points (before ++ t.name ∷ []) tags) h in
     let rest = behind points (before ++ t.name ∷ []) tags parts.1 in
     let split : (u : Tag) → list_any (bytes_eq u.name) (before ++ t.name ∷ []) ≡ false → (list_any (bytes_eq u.name) before ≡ false) × ((bytes_eq u.name t.name || false) ≡ false) =
-        λ u e. or_false (list_any (bytes_eq u.name) before) (bytes_eq u.name t.name || false) (sym (list_any-append (bytes_eq u.name) before (t.name ∷ [])) ∙ e) in
+    λ u e. or_false (list_any (bytes_eq u.name) before) (bytes_eq u.name t.name || false) (sym (list_any-append (bytes_eq u.name) before (t.name ∷ [])) ∙ e) in
     record {
       new = All-cons (λ (u : Tag). list_any (bytes_eq u.name) before ≡ false) t tags (new_name points _ t parts.0)
           (All-weaker (λ (u : Tag). list_any (bytes_eq u.name) (before ++ t.name ∷ []) ≡ false) (λ (u : Tag). list_any (bytes_eq u.name) before ≡ false) (λ u e. (split u e).0) tags rest.new);

@@ -32,8 +32,8 @@ pub lies_apart : (tags : List Tag) → AllPairs (λ (p q : PlacedTag). p.address
 lies_apart tags i j d before within =
     let short = within_tags tags j within in
     subst (λ (p : PlacedTag). p.address + words_of p.of ≤ (get_or (placed_tags tags) j d).address) (sym (placed_get tags i d some_tag (omega (arith, before, short))))
-        (subst (λ (q : PlacedTag). total_words (take i tags) + words_of_tag (get_or tags i some_tag) ≤ q.address) (sym (placed_get tags j d some_tag short))
-            (upto tags i j before short))
+    (subst (λ (q : PlacedTag). total_words (take i tags) + words_of_tag (get_or tags i some_tag) ≤ q.address) (sym (placed_get tags j d some_tag short))
+    (upto tags i j before short))
 
 below : (tags : List Tag) (k : ℕ) → k < length tags → total_words (take k tags) + words_of_tag (get_or tags k some_tag) ≤ total_words tags
 below tags k within =
@@ -52,23 +52,29 @@ lies_below tags k d within =
     subst (λ (p : PlacedTag). p.address + words_of p.of ≤ total_words tags) (sym (placed_get tags k d some_tag short)) (below tags k short)
 
 -- what holds of all holds of what is found
+found_by : {X : Type 0} (P : X → Type 0) (x : X) (o : Option X) (b : Bool) → P x → IfSome o P → IfSome (cond b (Some x) o) P
+found_by P x o true h rest = h
+found_by P x o false h rest = rest
+
 found_all : {X : Type 0} (P : X → Type 0) (test : X → Bool) (xs : List X) → All P xs → IfSome (find test xs) P
 found_all P test [] h = tt
-found_all P test (x ∷ xs) h = by (test x)
-  where
-    rest : IfSome (find test xs) P
-    rest = found_all P test xs (λ k d w. h (suc k) d (omega (arith, w)))
-    by : (b : Bool) → IfSome (cond b (Some x) (find test xs)) P
-    by true = h 0 x (omega arith)
-    by false = rest
+found_all P test (x ∷ xs) h =
+    found_by P x (find test xs) (test x) (h 0 x (omega arith)) (found_all P test xs (λ k d w. h (suc k) d (omega (arith, w))))
 
-pub named_below : (tags : List Tag) (name : List ℕ) → IfSome (placed_named tags name) (λ (p : PlacedTag). p.address + words_of p.of ≤ total_words tags)
+within_limit : (end total : ℕ) → total ≤ word_limit → end ≤ total → end ≤ word_limit
+within_limit end total few h = omega (arith, few, h)
+
+named_below : (tags : List Tag) (name : List ℕ) → IfSome (placed_named tags name) (λ (p : PlacedTag). p.address + words_of p.of ≤ total_words tags)
 unfolding placed_named
 named_below tags name = found_all (λ (p : PlacedTag). p.address + words_of p.of ≤ total_words tags) (λ t. bytes_eq name t.name) (placed_tags tags) (lies_below tags)
 
-pub in_memory : (o : Option PlacedTag) (total : ℕ) → total ≤ word_limit → IfSome o (λ (p : PlacedTag). p.address + words_of p.of ≤ total) → IfSome o (λ (p : PlacedTag). p.address + words_of p.of ≤ word_limit)
-in_memory None total few h = tt
-in_memory (Some p) total few h = omega (arith, few, h)
+-- the words of a tag that is found lie in the memory
+pub named_within : (tags : List Tag) (name : List ℕ) (o : Option PlacedTag) → total_words tags ≤ word_limit → o ≡ placed_named tags name → IfSome o (λ (p : PlacedTag). p.address + words_of p.of ≤ word_limit)
+named_within tags name o few is = by o (subst (λ q. IfSome q (λ (p : PlacedTag). p.address + words_of p.of ≤ total_words tags)) (sym is) (named_below tags name))
+  where
+    by : (q : Option PlacedTag) → IfSome q (λ (p : PlacedTag). p.address + words_of p.of ≤ total_words tags) → IfSome q (λ (p : PlacedTag). p.address + words_of p.of ≤ word_limit)
+    by None h = tt
+    by (Some p) h = within_limit (p.address + words_of p.of) (total_words tags) few h
 
 -- ---- by name
 
@@ -96,8 +102,8 @@ placed_apart : (tags : List Tag) → AreApart tags → AllPairs (λ (p q : Place
 placed_apart tags apart i j d before within =
     let short = within_tags tags j within in
     subst (λ (p : PlacedTag). p.name ≢ (get_or (placed_tags tags) j d).name) (sym (placed_get tags i d some_tag (omega (arith, before, short))))
-        (subst (λ (q : PlacedTag). (get_or tags i some_tag).name ≢ q.name) (sym (placed_get tags j d some_tag short))
-            (apart i j some_tag before short))
+    (subst (λ (q : PlacedTag). (get_or tags i some_tag).name ≢ q.name) (sym (placed_get tags j d some_tag short))
+    (apart i j some_tag before short))
 
 is_field : (field words : ℕ) → field < words → nat_lt field words ≡ true
 is_field field words h = grind (arith, nat_tests)

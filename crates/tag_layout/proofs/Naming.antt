@@ -1,13 +1,13 @@
 -- A tag is at the same place among the placed tags as among the declared ones.
-use Rattle.std.proofs.Common.{◌≡◌, ℕ, ◌+◌, suc, Bool, List, [], ◌∷◌, map, cond, Option, Some, None, refl, sym, ap, ◌∙◌}
+use Rattle.std.proofs.Common.{◌≡◌, ℕ, ◌+◌, suc, Bool, List, [], ◌∷◌, map, slice_get, cond, Option, Some, None, refl, sym, ap, ◌∙◌}
 use Rattle.std.specs.List.{position, enumerate_from}
 use Rattle.std.specs.Option.{option_map}
 use Rattle.std.specs.Str.{bytes_eq}
 use Rattle.st_tree.specs.declared.tag.Tag.{Tag}
 use Rattle.st_types.specs.Inner.Places.{place_of}
-use Rattle.st_types.proofs.Positions.{position_cons}
+use Rattle.st_types.proofs.Positions.{position_cons, some_there, none_there}
 use Rattle.tag_layout.specs.declared.placed.PlacedTag.{PlacedTag}
-use Rattle.tag_layout.specs.Layout.{placed_tags}
+use Rattle.tag_layout.specs.Layout.{placed_tags, placed_named}
 use Rattle.tag_layout.proofs.Placing.{placed_in}
 
 names_from : (all : List Tag) (n : ℕ) (ts : List Tag) → map (λ (p : PlacedTag). p.name) (map (placed_in all) (enumerate_from n ts)) ≡ map (λ (t : Tag). t.name) ts
@@ -31,3 +31,16 @@ place_is tags name =
     sym (position_mapped (λ (t : Tag). t.name) (bytes_eq name) tags)
     ∙ (ap (position (bytes_eq name)) (sym (placed_names tags))
     ∙ position_mapped (λ (p : PlacedTag). p.name) (bytes_eq name) (placed_tags tags))
+
+-- the tag at the place of a name is the tag of the name
+pub named_there : (tags : List Tag) (name : List ℕ) (place : ℕ) (ps : List PlacedTag) (o : Option PlacedTag)
+    → o ≡ slice_get ps place → ps ≡ placed_tags tags → Some place ≡ place_of tags name → o ≡ placed_named tags name
+unfolding placed_named
+named_there tags name place ps o got all there =
+    got
+    ∙ (ap (λ ts. slice_get ts place) all
+    ∙ some_there (λ (p : PlacedTag). bytes_eq name p.name) (placed_tags tags) place (there ∙ place_is tags name))
+
+pub named_nowhere : (tags : List Tag) (name : List ℕ) → None ≡ place_of tags name → None ≡ placed_named tags name
+unfolding placed_named
+named_nowhere tags name nowhere = none_there (λ (p : PlacedTag). bytes_eq name p.name) (placed_tags tags) (nowhere ∙ place_is tags name)

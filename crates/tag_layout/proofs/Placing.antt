@@ -1,5 +1,5 @@
 -- The tags with their addresses, one by one.
-use Rattle.std.proofs.Common.{◌≡◌, ℕ, ◌<◌, ◌≤◌, ◌+◌, zero, suc, List, [], ◌∷◌, ◌++◌, length, get_or, take, map, None, refl, sym, ap, ◌∙◌, arith, length-take-le, take_all}
+use Rattle.std.proofs.Common.{◌≡◌, ℕ, ◌<◌, ◌≤◌, ◌+◌, zero, suc, List, [], ◌∷◌, ◌++◌, length, get_or, take, map, min, false, None, refl, sym, ap, ◌∙◌, arith, length-take-le, take_all}
 use Rattle.std.specs.List.{enumerate_from, sum_by}
 use Rattle.std.proofs.lemmas.List.{take_more, map-append, length-map, get_or-map}
 use Rattle.std.proofs.lemmas.List.Sums.{sum_by_more, sum_by-take-le}
@@ -8,7 +8,8 @@ use Rattle.function_blocks.specs.declared.kinds.Kind.TheVariants as kind
 use Rattle.st_tree.specs.declared.declaration.DeclaredType.TheVariants as declared
 use Rattle.st_tree.specs.declared.tag.Tag.{Tag}
 use Rattle.tag_layout.specs.declared.placed.PlacedTag.{PlacedTag}
-use Rattle.tag_layout.specs.Layout.{words_of_tag, total_words, address_at, placed_tag, placed_tags}
+use Rattle.tri_base.specs.Limits.{word_limit}
+use Rattle.tag_layout.specs.Layout.{greatest_told, words_of_tag, total_words, address_at, placed_tag, placed_tags}
 
 -- a tag with its place, at its address among all tags
 abbrev pub placed_in : List Tag → ℕ × Tag → PlacedTag
@@ -79,3 +80,7 @@ placed_get tags i d t within =
     get_or-map (placed_in tags) (enumerate_from 0 tags) i (0, t) d (rw (length-enumerate_from 0 tags) within)
     ∙ (ap (placed_in tags) (get_or-enumerate_from 0 tags i (0, t) within)
     ∙ ap (λ (k : ℕ). placed_tag (get_or tags i t) (total_words (take k tags))) (zero_more i))
+
+-- a number that is told and is within the limit is the number of the words
+pub few_told : (told total : ℕ) → told ≡ min total greatest_told → told ≤ word_limit → (told ≡ total) × (total ≤ word_limit)
+few_told told total is few = (omega (arith, is, few), omega (arith, is, few))

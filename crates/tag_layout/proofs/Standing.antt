@@ -5,7 +5,7 @@ use Rattle.std.specs.Str.{bytes_eq}
 use Rattle.std.proofs.lemmas.Bool.Decides.{nat_tests}
 use Rattle.std.proofs.lemmas.Option.{slice_get_past}
 use Rattle.std.proofs.lemmas.List.Sums.{sum_by-cons, sum_by-append}
-use Rattle.std.proofs.lemmas.List.{take-append_seam}
+use Rattle.std.proofs.Math.Seq.{take-append_seam}
 use Rattle.st_tree.specs.declared.tag.Tag.{Tag}
 use Rattle.tag_layout.specs.declared.placed.PlacedTag.{PlacedTag}
 use Rattle.tag_layout.specs.Layout.{words_of_tag, total_words, placed_tag, placed_tags, placed_named, field_address, address_of, Environment, name_and_words, name_and_count, IsEnvironmentOf, laid_words, Laid, number_in, number_of, word_at}
@@ -51,11 +51,23 @@ tails : {X : Type 0} (x y : X) (xs ys : List X) → x ∷ xs ≡ y ∷ ys → xs
 tails x y xs ys h = cc
 
 -- the number at a place behind others
+zero_more : (n : ℕ) → 0 + n ≡ n
+zero_more n = omega arith
+
+one_before : (n k : ℕ) → suc n + k ≡ suc (n + k)
+one_before n k = omega arith
+
+behind_all : (before rest : List ℤ) (field : ℕ) → slice_get (before ++ rest) (length before + field) ≡ slice_get rest field
+behind_all [] rest field = ap (slice_get rest) (zero_more field)
+behind_all (v ∷ before) rest field = ap (slice_get (v ∷ (before ++ rest))) (one_before (length before) field) ∙ behind_all before rest field
+
+within_these : (here after : List ℤ) (field : ℕ) → field < length here → slice_get (here ++ after) field ≡ slice_get here field
+within_these [] after field h = absurd (omega (arith, h))
+within_these (v ∷ here) after zero h = refl
+within_these (v ∷ here) after (suc field) h = within_these here after field (omega (arith, h))
+
 got_behind : (before here after : List ℤ) (field : ℕ) → field < length here → slice_get (before ++ (here ++ after)) (length before + field) ≡ slice_get here field
-got_behind [] [] after field h = absurd (omega (arith, h))
-got_behind [] (v ∷ here) after zero h = refl
-got_behind [] (v ∷ here) after (suc field) h = got_behind [] here after field (omega (arith, h))
-got_behind (w ∷ before) here after field h = got_behind before here after field h
+got_behind before here after field h = behind_all before (here ++ after) field ∙ within_these here after field h
 
 in_field : (before here after : List ℤ) (field words : ℕ) (b : Bool) → nat_lt field words ≡ b → length here ≡ words
     → word_at (before ++ (here ++ after)) (if b then Some (length before + field) else None) ≡ slice_get here field
@@ -83,10 +95,13 @@ stands_from before (t ∷ tags) (e ∷ env) name field h =
   where
     whole : List ℤ
     whole = before ++ (e.1 ++ flat_map (λ (d : List ℕ × List ℤ). d.1) env)
+
     there : ℕ → Option PlacedTag
     there k = find (λ (p : PlacedTag). bytes_eq name p.name) (placed_from k tags)
+
     number : Option (List ℕ × List ℤ)
     number = find (λ (d : List ℕ × List ℤ). bytes_eq name d.0) env
+
     by : e.0 ≡ t.name → length e.1 ≡ words_of_tag t → (after : List ℤ)
         → word_at ((before ++ e.1) ++ flat_map (λ (d : List ℕ × List ℤ). d.1) env) (field_address (there (length (before ++ e.1))) field) ≡ number_in number field
         → length (before ++ e.1) ≡ length before + words_of_tag t

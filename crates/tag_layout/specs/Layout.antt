@@ -1,5 +1,5 @@
--- Where the words of a program's tags lie, and what they are at first. Every declared tag has words, one of VAR_EXTERNAL
--- too: one word for each of its fields, in order of declaration, from address 0 on. Own rule.
+-- Where the words of a program's tags lie, and what they are at first. Every declared tag has words, one of
+-- VAR_EXTERNAL too: one word for each of its fields, in order of declaration, from address 0 on. Own rule.
 use Rattle.std.specs.Prelude.{◌≡◌, ◌≢◌, ℕ, ◌+◌, ◌-◌, ◌^◌, ◌<◌, ◌≤◌, min, nat_lt, ℤ, pos, ◌-ℤ◌, int_lt, unsigned_abs, if◌then◌else◌, List, [], ◌∷◌, length, map, take, replicate, slice_get, Option, Some, None, Result, Ok, Err}
 use Rattle.std.specs.List.{flat_map, find, sum_by, enumerate_from, AllPairs}
 use Rattle.std.specs.Str.{bytes_eq}
@@ -156,8 +156,8 @@ first_number None = pos 0
 first_number (Some (constant.Integer i)) = integer_value i
 first_number (Some (constant.Truth value place)) = number value
 
--- the first numbers of a tag's words: each element of an array has the first value that is written, and a function block
--- has its own
+-- the first numbers of a tag's words: each element of an array has the first value that is written, and a function
+-- block has its own
 abbrev pub first_numbers : DeclaredType → Option Constant → List ℤ
 first_numbers (declared.Simple k) constant = first_number constant ∷ []
 first_numbers (declared.Array low high element) constant =
@@ -190,5 +190,6 @@ greatest_told = 2 ^ 64 - 1
 -- else the number of their words is told. That memory fails says nothing of the program.
 abbrev pub Lays : List Tag → Result (List Tag) LayFault → Type 0
 Lays tags (Ok layout) = (layout ≡ tags) × (total_words tags ≤ word_limit)
-Lays tags (Err (TooManyWords words)) = (word_limit < total_words tags) × (words ≡ min (total_words tags) greatest_told)
+Lays tags (Err (TooManyWords words)) =
+    (word_limit < total_words tags) × (words ≡ min (total_words tags) greatest_told)
 Lays tags (Err NoMemory) = Unit {0}

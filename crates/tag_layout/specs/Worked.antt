@@ -58,8 +58,9 @@ large_array = variable (codes "A") (declared.Array (integer 0) (integer 4096) ki
 abbrev pub trip : List Tag
 trip =
     map (point_tag kind.Int) (codes "P1" ∷ codes "P2" ∷ codes "P3" ∷ [])
-    ++ map (point_tag kind.Bool) (codes "RESET" ∷ codes "STOP" ∷ codes "D3" ∷ codes "D4" ∷ codes "D5" ∷ codes "D6" ∷ [])
-    ++ map (point_tag kind.Bool) (codes "D7" ∷ codes "D8" ∷ codes "VALVE" ∷ codes "PUMP" ∷ codes "HORN" ∷ codes "LAMP" ∷ [])
+    ++ map (point_tag kind.Bool) (codes "RESET" ∷ codes "STOP" ∷ codes "D3" ∷ codes "D4" ∷ codes "D5" ∷ [])
+    ++ map (point_tag kind.Bool) (codes "D6" ∷ codes "D7" ∷ codes "D8" ∷ [])
+    ++ map (point_tag kind.Bool) (codes "VALVE" ∷ codes "PUMP" ∷ codes "HORN" ∷ codes "LAMP" ∷ [])
     ++ variable (codes "HIGH") (declared.Simple kind.Bool) None
     ∷ variable (codes "TRIPPED") (declared.Simple kind.Bool) None
     ∷ variable (codes "DELAY") (declared.Block block.Ton) None
@@ -87,7 +88,7 @@ pub record Worked : Type 0 where
   pub last_word : address_of ten_words (codes "N") 0 ≡ Some 9
   pub ten : total_words ten_words ≡ 10
   pub ten_first :
-    first_words ten_words ≡ map pos (0 ∷ 0 ∷ 2 ∷ 2 ∷ 2 ∷ 0 ∷ 0 ∷ 1 ∷ 1 ∷ 0 ∷ [])
+      first_words ten_words ≡ map pos (0 ∷ 0 ∷ 2 ∷ 2 ∷ 2 ∷ 0 ∷ 0 ∷ 1 ∷ 1 ∷ 0 ∷ [])
   pub one_too_many : total_words large_array ≡ 4097
   pub trip_words : total_words trip ≡ 23
   pub delay_at_17 : address_of trip (codes "DELAY") 0 ≡ Some 17

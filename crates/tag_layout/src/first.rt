@@ -53,7 +53,8 @@ fn push_times(words: &mut Words, times: usize, number: i64) -> Result<(), NoMemo
 
 // Adds the first numbers of a tag's words.
 fn push_tag(words: &mut Words, tag: &Tag) -> Result<(), NoMemory>
-    ensures { OnOk result (words.new.list ≡ words.old.list ++ spec.first_numbers tag.now.declared tag.now.constant) }
+    ensures { OnOk result
+        (words.new.list ≡ words.old.list ++ spec.first_numbers tag.now.declared tag.now.constant) }
 {
     match tag.declared {
         DeclaredType::Simple(_) => push_word(words, first_number(tag.constant)),

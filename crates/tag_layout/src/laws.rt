@@ -13,34 +13,40 @@ ghost use Rattle.tag_layout.specs.Worked.{Worked};
 
 /// A well-typed program declares no name twice.
 pub fn names_are_apart()
-    ensures { (points : List Point) (tree : Tree) → WellTyped points tree → AreApart (tags_of tree) }
+    ensures { (points : List Point) (tree : Tree) → WellTyped points tree
+        → AreApart (tags_of tree) }
 {}
 
 /// The words of two tags don't overlap: those of a tag lie before those of each later tag.
 pub fn tags_lie_apart()
-    ensures { (tags : List Tag) → AllPairs (λ (p q : PlacedTag). p.address + words_of p.of ≤ q.address) (placed_tags tags) }
+    ensures { (tags : List Tag)
+        → AllPairs (λ (p q : PlacedTag). p.address + words_of p.of ≤ q.address) (placed_tags tags) }
 {}
 
 /// All words of a tag lie below the number of words.
 pub fn tags_lie_below()
-    ensures { (tags : List Tag) → All (λ p. p.address + words_of p.of ≤ total_words tags) (placed_tags tags) }
+    ensures { (tags : List Tag)
+        → All (λ p. p.address + words_of p.of ≤ total_words tags) (placed_tags tags) }
 {}
 
 /// Each word of a tag is found by the tag's name, where no two tags have one name.
 pub fn each_word_is_found()
     ensures { (tags : List Tag) → AreApart tags
-        → All (λ p. (field : ℕ) → field < words_of p.of → address_of tags p.name field ≡ Some (p.address + field)) (placed_tags tags) }
+        → All (λ p. (field : ℕ) → field < words_of p.of
+        → address_of tags p.name field ≡ Some (p.address + field)) (placed_tags tags) }
 {}
 
 /// Words that hold an environment are as many as the tags have.
 pub fn one_word_per_field()
-    ensures { (tags : List Tag) (env : Environment) (words : List ℤ) → Laid tags env words → length words ≡ total_words tags }
+    ensures { (tags : List Tag) (env : Environment) (words : List ℤ) → Laid tags env words
+        → length words ≡ total_words tags }
 {}
 
 /// The number of each field stands at the field's address.
 pub fn numbers_stand_at_their_addresses()
     ensures { (tags : List Tag) (env : Environment) (words : List ℤ) → Laid tags env words
-        → (name : List ℕ) (field : ℕ) → word_at words (address_of tags name field) ≡ number_of env name field }
+        → (name : List ℕ) (field : ℕ)
+        → word_at words (address_of tags name field) ≡ number_of env name field }
 {}
 
 /// The first words hold the first values.

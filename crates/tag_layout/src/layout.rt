@@ -90,7 +90,10 @@ impl Layout {
         ensures value { result ≡ placed_named self.now name.now }
         ensures within { IfSome result (λ tag. tag.address + words_of tag.of ≤ word_limit) }
     {
-        self.named(name)
+        match self.place(name) {
+            Some(place) => self.placed.get(place).copied(),
+            None => None,
+        }
     }
 
     /// The address of a tag's field, in constant time; None exactly where no tag has the name or
@@ -121,15 +124,5 @@ impl Layout {
         ensures { result ≡ place_of self.now name.now }
     {
         self.places.get(name).copied()
-    }
-
-    // The first tag with a name.
-    fn named(&self, name: &Name) -> Option<PlacedTag>
-        ensures { result ≡ placed_named self.now name.now }
-    {
-        match self.place(name) {
-            Some(place) => self.placed.get(place).copied(),
-            None => None,
-        }
     }
 }

@@ -13,3 +13,6 @@ mod types;
 pub use fault::LayFault;
 pub use layout::{Layout, lay};
 pub use placed::PlacedTag;
+
+#[cfg(test)]
+mod tests;

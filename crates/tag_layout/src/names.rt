@@ -24,7 +24,8 @@ fn note_first(places: &mut IndexMap<Name, usize>, name: Name, place: usize) -> R
 
 /// The place of the first tag with each name.
 pub fn first_places(alloc: Global, tags: &[Tag]) -> Result<IndexMap<Name, usize>, NoMemory>
-    ensures { IfOk result (λ places. (name : List ℕ) → lookup (same_name name) places.entries ≡ place_of tags.now name) }
+    ensures { IfOk result (λ places. (name : List ℕ)
+        → lookup (same_name name) places.entries ≡ place_of tags.now name) }
 {
     let mut places = IndexMap::new(alloc);
     for (place, tag) in tags.iter().enumerate() {

@@ -32,7 +32,8 @@ fn add_block(tags: &mut Vec<Tag>, block: &Block) -> Result<(), NoMemory>
 }
 
 fn add_plain(tags: &mut Vec<Tag>, declarations: &[Declaration]) -> Result<(), NoMemory>
-    ensures { OnOk result (tags.new.items ≡ tags.old.items ++ flat_map tags_of_declaration declarations.now) }
+    ensures { OnOk result
+        (tags.new.items ≡ tags.old.items ++ flat_map tags_of_declaration declarations.now) }
 {
     for d in declarations {
         add_names(tags, false, d.declared, d.constant, &d.names)?;
@@ -41,7 +42,8 @@ fn add_plain(tags: &mut Vec<Tag>, declarations: &[Declaration]) -> Result<(), No
 }
 
 fn add_external(tags: &mut Vec<Tag>, declarations: &[ExternalDeclaration]) -> Result<(), NoMemory>
-    ensures { OnOk result (tags.new.items ≡ tags.old.items ++ flat_map tags_of_external declarations.now) }
+    ensures { OnOk result
+        (tags.new.items ≡ tags.old.items ++ flat_map tags_of_external declarations.now) }
 {
     for d in declarations {
         add_names(tags, true, DeclaredType::Simple(d.declared), None, &d.names)?;
@@ -57,7 +59,8 @@ fn add_names(
     constant: Option<Constant>,
     names: &Names,
 ) -> Result<(), NoMemory>
-    ensures { OnOk result (tags.new.items ≡ tags.old.items ++ tags_of_names external declared constant names.now) }
+    ensures { OnOk result
+        (tags.new.items ≡ tags.old.items ++ tags_of_names external declared constant names.now) }
 {
     add_name(tags, external, declared, constant, &names.first)?;
     for name in names.more.as_slice() {
@@ -73,7 +76,8 @@ fn add_name(
     constant: Option<Constant>,
     name: &PlacedName,
 ) -> Result<(), NoMemory>
-    ensures { OnOk result (tags.new.items ≡ tags.old.items ++ tag_of external declared constant name.now ∷ []) }
+    ensures { OnOk result
+        (tags.new.items ≡ tags.old.items ++ tag_of external declared constant name.now ∷ []) }
 {
     tags.push(Tag {
         name: name.name,

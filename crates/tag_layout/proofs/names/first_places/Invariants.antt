@@ -5,4 +5,4 @@ use Rattle.st_types.specs.Inner.Places.{place_of}
 use Rattle.tag_layout.proofs.names.first_places.Given as goal
 
 abbrev pub invariant-loop-place : goal.invariant-loop-place
-invariant-loop-place l = (name : List ℕ) → lookup (same_name name) l.places.entries ≡ place_of (take l.place-index l.tags) name
+invariant-loop-place l = (name : List ℕ) → lookup (same_name name) l.places.entries ≡ place_of (take l.place l.tags) name

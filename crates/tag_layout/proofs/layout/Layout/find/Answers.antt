@@ -1,12 +1,27 @@
-use Rattle.std.proofs.Common.{◌≡◌, ◌+◌, ◌≤◌, sym, subst}
-use Rattle.std.specs.Prelude.{Option, IfSome}
+use Rattle.std.proofs.Common.{ap, ◌∙◌, subst, ◌≤◌, List}
 use Rattle.tri_base.specs.Limits.{word_limit}
-use Rattle.tag_layout.specs.declared.placed.PlacedTag.{PlacedTag}
-use Rattle.tag_layout.specs.Layout.{words_of, total_words, placed_named}
-use Rattle.tag_layout.proofs.Lying.{named_below, in_memory}
+use Rattle.st_tree.specs.declared.tag.Tag.{Tag}
+use Rattle.st_types.proofs.Positions.{got_at}
+use Rattle.tag_layout.specs.Layout.{total_words, placed_tags}
+use Rattle.tag_layout.proofs.Naming.{named_there, named_nowhere}
+use Rattle.tag_layout.proofs.Lying.{named_within}
 use Rattle.tag_layout.proofs.layout.Layout.find.Goals as goal
 
-pub returns-clause-within : goal.returns-clause-within
-returns-clause-within c =
-    subst (λ (o : Option PlacedTag). IfSome o (λ (p : PlacedTag). p.address + words_of p.of ≤ word_limit)) (sym c.named.ensures)
-        (in_memory (placed_named c.args.self.now c.args.name.now) (total_words c.args.self.now) ? (named_below c.args.self.now c.args.name.now))
+pub returns-in-Some-clause-value : goal.returns-in-Some-clause-value
+returns-in-Some-clause-value c =
+    named_there c.args.self.now c.args.name.now c.in-Some.place c.deref.result.now c.copied.result
+    (c.copied.ensures ∙ got_at c.get.result c.deref.result.now c.in-Some.place c.get.ensures.lookup.3)
+    (c.deref.ensures.value ∙ (c.self.invariant.placed ∙ ap placed_tags c.self.view_is))
+    c.in-Some.ensures
+
+pub returns-in-Some-clause-within : goal.returns-in-Some-clause-within
+returns-in-Some-clause-within c =
+    named_within c.args.self.now c.args.name.now c.copied.result
+    (subst (λ (ts : List Tag). total_words ts ≤ word_limit) c.self.view_is c.self.invariant.few)
+    (named_there c.args.self.now c.args.name.now c.in-Some.place c.deref.result.now c.copied.result
+    (c.copied.ensures ∙ got_at c.get.result c.deref.result.now c.in-Some.place c.get.ensures.lookup.3)
+    (c.deref.ensures.value ∙ (c.self.invariant.placed ∙ ap placed_tags c.self.view_is))
+    c.in-Some.ensures)
+
+pub returns-in-None-clause-value : goal.returns-in-None-clause-value
+returns-in-None-clause-value c = named_nowhere c.args.self.now c.args.name.now c.in-None.ensures
