@@ -1,0 +1,13 @@
+pub mod Laid
+pub mod Places
+pub mod Goes
+pub mod Terms
+pub mod Effects
+pub mod Loops
+pub mod Runs
+pub mod Depths
+pub mod Keeps
+pub mod Leaves
+pub mod Compiled
+pub mod Sound
+pub mod Counts

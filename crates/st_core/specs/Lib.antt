@@ -1,0 +1,16 @@
+pub use Rattle.function_blocks.specs.Values
+pub use Rattle.function_blocks.specs.Arithmetic
+pub use Rattle.function_blocks.specs.Fields
+pub use Rattle.function_blocks.specs.Blocks
+pub use Rattle.scan_machine.specs.Rules
+pub use Rattle.scan_machine.specs.Machine
+pub mod Core
+pub mod Environments
+pub mod Terms
+pub mod Effects
+pub mod Costs
+pub mod Memory
+pub mod Fits
+pub mod Compiled
+pub mod Laws
+pub mod Inner
