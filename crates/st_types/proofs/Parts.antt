@@ -22,6 +22,7 @@ use Rattle.st_types.proofs.Lists.{each_mapped, elements_mapped, two_parts}
 use Rattle.function_blocks.specs.Fields.{input_named}
 use Rattle.st_tree.specs.Tags.{tag_named}
 use Rattle.st_types.specs.Inner.Firsts.{soonest}
+use Rattle.st_types.specs.Inner.Parts.{behind_else}
 use Rattle.st_tree.specs.Typing.Faults.{first_of}
 use Rattle.st_tree.specs.Typing.Operands.{faults_of, type_in, as_integer}
 use Rattle.st_tree.specs.Typing.Expressions.{typing_of}
@@ -37,13 +38,8 @@ element_is s k loops e =
     ap (λ (f : ElementChecks). f k loops) (out-of_element (statement_rules s) e)
     ∙ ap (λ l. labels_faults k ((out-Element e).first ∷ (out-Element e).more) ++ l) (each_mapped (fold_statement (statement_rules s)) (out-Element e).body loops)
 
--- the statements behind ELSE
-abbrev pub others_of : Scope → Loops → Option (List Statement) → List TypeFault
-others_of s loops None = []
-others_of s loops (Some body) = flat_map (statement_faults s loops) body
-
 pub if_is : (s : Scope) (loops : Loops) (first : Branch) (more : List Branch) (others : Option (List Statement))
-    → statement_faults s loops (st.If first more others) ≡ (fold_branch (statement_rules s) first loops ++ flat_map (λ b. fold_branch (statement_rules s) b loops) more) ++ others_of s loops others
+    → statement_faults s loops (st.If first more others) ≡ (fold_branch (statement_rules s) first loops ++ flat_map (λ b. fold_branch (statement_rules s) b loops) more) ++ flat_map (statement_faults s loops) (behind_else others)
 if_is s loops first more None =
     ap (λ (f : Checks). f loops) (at-if (statement_rules s) first more None)
     ∙ ap (λ l. (fold_branch (statement_rules s) first loops ++ l) ++ []) (each_mapped (fold_branch (statement_rules s)) more loops)
@@ -54,7 +50,7 @@ if_is s loops first more (Some body) =
 pub case_is : (s : Scope) (loops : Loops) (selector : Expr) (first : Element) (more : List Element) (others : Option (List Statement))
     → statement_faults s loops (st.Case selector first more others)
     ≡ ((faults_of (as_integer (typing_of s.tags selector)) ++ fold_element (statement_rules s) first (type_in (as_integer (typing_of s.tags selector))) loops)
-    ++ flat_map (λ e. fold_element (statement_rules s) e (type_in (as_integer (typing_of s.tags selector))) loops) more) ++ others_of s loops others
+    ++ flat_map (λ e. fold_element (statement_rules s) e (type_in (as_integer (typing_of s.tags selector))) loops) more) ++ flat_map (statement_faults s loops) (behind_else others)
 case_is s loops selector first more None =
     let found = as_integer (typing_of s.tags selector) in
     ap (λ (f : Checks). f loops) (at-case (statement_rules s) selector first more None)

@@ -1,10 +1,11 @@
 //! Calls of blocks.
 
-ghost use Rattle.std.specs.Prelude.{◌≡◌, [], ◌∷◌, IfOk, OnOk};
+ghost use Rattle.std.specs.Prelude.{◌≡◌, [], IfOk, OnOk};
 ghost use Rattle.std.specs.List.{list_any};
 ghost use Rattle.std.specs.Str.{bytes_eq};
 ghost use Rattle.indexmap.specs.IndexSet.{insert_key};
 ghost use Rattle.tri_base.specs.Inner.NameFields.{same_name};
+ghost use Rattle.st_tree.specs.Listed.{inputs_of};
 ghost use Rattle.st_tree.specs.Typing.Faults.{first_of};
 ghost use Rattle.st_tree.specs.Typing.Statements.{inputs_faults};
 ghost use Rattle.st_types.specs.Inner.Finds.{Finds};
@@ -54,7 +55,7 @@ fn inputs_fault(
     block: BlockKind,
     inputs: &Inputs,
 ) -> Result<Option<TypeFault>, NoMemory>
-    ensures { Finds (inputs_faults tags.now block [] (inputs.now.first ∷ inputs.now.more)) result }
+    ensures { Finds (inputs_faults tags.now block [] (inputs_of inputs.now)) result }
 {
     let mut fault = input_fault(tags, block, false, &inputs.first);
     let mut named = IndexSet::new(alloc);

@@ -52,7 +52,8 @@ pub fn for_fault(
     last: Integer,
     step: Option<Integer>,
 ) -> Option<TypeFault>
-    ensures { result ≡ first_of (for_faults (scope chassis.now tags.now) loops.now name first last step) }
+    ensures { let s = scope chassis.now tags.now in
+        result ≡ first_of (for_faults s loops.now name first last step) }
 {
     let Some(tag) = tags.named(&name.name) else {
         return unknown_name(name);

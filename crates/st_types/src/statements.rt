@@ -3,7 +3,7 @@
 ghost use Rattle.std.specs.Prelude.{◌≡◌, [], ◌∷◌, ◌++◌, IfOk};
 ghost use Rattle.st_tree.specs.Typing.Statements.{statement_faults};
 ghost use Rattle.st_types.specs.Inner.Finds.{Finds};
-ghost use Rattle.st_types.specs.Inner.Parts.{scope, statements_faults, branch_faults, branches_faults, element_faults, elements_faults};
+ghost use Rattle.st_types.specs.Inner.Parts.{scope, statements_faults, branch_faults, branches_faults, element_faults, elements_faults, behind_else, loop_faults};
 
 use crate::assignments::assignment_fault;
 use crate::calls::call_fault;
@@ -15,6 +15,7 @@ use crate::tags::DeclaredTags;
 use crate::values::value_fault;
 use chassis::Chassis;
 use function_blocks::Kind;
+use sqlite_items::Items;
 use st_tree::{Branch, Element, Statement};
 use std::alloc::Global;
 use tri_base::{Name, NoMemory, TypeCause, TypeFault};
@@ -42,12 +43,8 @@ pub fn statement_fault(
         } => {
             let first = branch_fault(alloc, chassis, tags, loops, first)?;
             let more = branches_fault(alloc, chassis, tags, loops, more.as_slice())?;
-            let others = match otherwise {
-                Some(body) => statements_fault(alloc, chassis, tags, loops, body.as_slice())?,
-                None => None,
-            };
-            let branches = soonest(first, more);
-            Ok(soonest(branches, others))
+            let others = statements_fault(alloc, chassis, tags, loops, behind_else(otherwise))?;
+            Ok(soonest(soonest(first, more), others))
         }
         Statement::Case {
             selector,
@@ -56,15 +53,10 @@ pub fn statement_fault(
             otherwise,
         } => {
             let found = type_expression(tags, selector).as_integer();
-            let kind = found.kind();
-            let first = element_fault(alloc, chassis, tags, loops, kind, first)?;
-            let more = elements_fault(alloc, chassis, tags, loops, kind, more.as_slice())?;
-            let others = match otherwise {
-                Some(body) => statements_fault(alloc, chassis, tags, loops, body.as_slice())?,
-                None => None,
-            };
-            let elements = soonest(soonest(found.fault(), first), more);
-            Ok(soonest(elements, others))
+            let first = element_fault(alloc, chassis, tags, loops, found.kind(), first)?;
+            let more = elements_fault(alloc, chassis, tags, loops, found.kind(), more.as_slice())?;
+            let others = statements_fault(alloc, chassis, tags, loops, behind_else(otherwise))?;
+            Ok(soonest(soonest(soonest(found.fault(), first), more), others))
         }
         Statement::For {
             tag,
@@ -73,10 +65,9 @@ pub fn statement_fault(
             step,
             body,
         } => {
-            let fault = for_fault(chassis, tags, loops, *tag, *first, *last, *step);
-            let inner = within(alloc, loops, tag.name)?;
-            let body = statements_fault(alloc, chassis, tags, inner.as_slice(), body.as_slice())?;
-            Ok(soonest(fault, body))
+            let numbers = for_fault(chassis, tags, loops, *tag, *first, *last, *step);
+            let body = loop_fault(alloc, chassis, tags, loops, tag.name, body.as_slice())?;
+            Ok(soonest(numbers, body))
         }
         Statement::Exit(place) => { Ok(fault_if(loops.is_empty(), *place, TypeCause::ExitOutside)) }
     }
@@ -91,7 +82,8 @@ pub fn statements_fault(
     loops: &[Name],
     statements: &[Statement],
 ) -> Result<Option<TypeFault>, NoMemory>
-    ensures { Finds (statements_faults (scope chassis.now tags.now) loops.now statements.now) result }
+    ensures { let s = scope chassis.now tags.now in
+        Finds (statements_faults s loops.now statements.now) result }
 {
     let mut fault = None;
     for statement in statements {
@@ -143,7 +135,8 @@ fn element_fault(
     kind: Option<Kind>,
     element: &Element,
 ) -> Result<Option<TypeFault>, NoMemory>
-    ensures { Finds (element_faults (scope chassis.now tags.now) kind loops.now element.now) result }
+    ensures { let s = scope chassis.now tags.now in
+        Finds (element_faults s kind loops.now element.now) result }
 {
     let labels = labels_fault(kind, element.first, element.more.as_slice());
     let body = statements_fault(alloc, chassis, tags, loops, element.body.as_slice())?;
@@ -159,7 +152,8 @@ fn elements_fault(
     kind: Option<Kind>,
     elements: &[Element],
 ) -> Result<Option<TypeFault>, NoMemory>
-    ensures { Finds (elements_faults (scope chassis.now tags.now) kind loops.now elements.now) result }
+    ensures { let s = scope chassis.now tags.now in
+        Finds (elements_faults s kind loops.now elements.now) result }
 {
     let mut fault = None;
     for element in elements {
@@ -169,6 +163,22 @@ fn elements_fault(
     Ok(fault)
 }
 
+// The body of a FOR that counts with the tag of this name.
+#[cycle(checking)]
+fn loop_fault(
+    alloc: Global,
+    chassis: &Chassis,
+    tags: &DeclaredTags,
+    loops: &[Name],
+    name: Name,
+    body: &[Statement],
+) -> Result<Option<TypeFault>, NoMemory>
+    ensures { Finds (loop_faults (scope chassis.now tags.now) loops.now name body.now) result }
+{
+    let inner = within(alloc, loops, name)?;
+    statements_fault(alloc, chassis, tags, inner.as_slice(), body)
+}
+
 // The loops around the body of one more.
 fn within(alloc: Global, loops: &[Name], name: Name) -> Result<Vec<Name>, NoMemory>
     ensures { IfOk result (λ inner. inner.items ≡ loops.now ++ name ∷ []) }
@@ -176,4 +186,14 @@ fn within(alloc: Global, loops: &[Name], name: Name) -> Result<Vec<Name>, NoMemo
     let mut inner = Vec::from_slice(alloc, loops)?;
     inner.push(name)?;
     Ok(inner)
+}
+
+// The statements behind ELSE, if it is written.
+fn behind_else(otherwise: &Option<Items<Statement>>) -> &[Statement]
+    ensures { result.now ≡ behind_else otherwise.now }
+{
+    match otherwise {
+        Some(body) => body.as_slice(),
+        None => &[],
+    }
 }

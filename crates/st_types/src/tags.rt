@@ -154,7 +154,8 @@ fn add_names(
     constant: Option<Constant>,
     names: &Names,
 ) -> Result<(), NoMemory>
-    ensures { OnOk result (tags.new ≡ tags.old ++ tags_of_names external declared constant names.now) }
+    ensures { let added = tags_of_names external declared constant names.now in
+        OnOk result (tags.new ≡ tags.old ++ added) }
 {
     add_name(tags, external, declared, constant, &names.first)?;
     for name in names.more.as_slice() {
@@ -170,7 +171,8 @@ fn add_name(
     constant: Option<Constant>,
     name: &PlacedName,
 ) -> Result<(), NoMemory>
-    ensures { OnOk result (tags.new ≡ tags.old ++ tag_of external declared constant name.now ∷ []) }
+    ensures { let added = tag_of external declared constant name.now in
+        OnOk result (tags.new ≡ tags.old ++ added ∷ []) }
 {
     tags.add(Tag {
         name: name.name,

@@ -1,6 +1,6 @@
 -- Nobody has to believe what stands here: it serves private functions alone.
 -- The rules that the parts of a program break, as the checker goes through them.
-use Rattle.std.specs.Prelude.{Bool, List, map, Option}
+use Rattle.std.specs.Prelude.{ℕ, Bool, List, [], ◌∷◌, ◌++◌, map, Option, Some, None}
 use Rattle.std.specs.List.{flat_map}
 use Rattle.tri_base.specs.declared.point.Point.{Point}
 use Rattle.tri_base.specs.declared.faults.TypeFault.{TypeFault}
@@ -59,6 +59,15 @@ element_faults s kind loops element = fold_element (statement_rules s) element k
 -- elements of CASE
 abbrev pub elements_faults : Scope → Option Kind → Loops → List Element → List TypeFault
 elements_faults s kind loops elements = flat_map (element_faults s kind loops) elements
+
+-- the statements behind ELSE, if it is written
+abbrev pub behind_else : Option (List Statement) → List Statement
+behind_else None = []
+behind_else (Some body) = body
+
+-- the body of a FOR that counts with the tag of this name
+abbrev pub loop_faults : Scope → Loops → List ℕ → List Statement → List TypeFault
+loop_faults s loops name body = statements_faults s (loops ++ name ∷ []) body
 
 -- the tag and the numbers of FOR
 abbrev pub for_faults : Scope → Loops → PlacedName → (first last : Integer) → Option Integer → List TypeFault

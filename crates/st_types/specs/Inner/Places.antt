@@ -12,9 +12,11 @@ use Rattle.st_types.specs.declared.tags.DeclaredTags.TheInside.{Inside}
 abbrev pub place_of : List Tag → List ℕ → Option ℕ
 place_of tags name = position (λ t. bytes_eq name t.name) tags
 
+-- The table has the place of the first tag with each name.
 pub record IsKept (s : Inside) : Type 0 where
   pub places : (name : List ℕ) → lookup (same_name name) s.places.entries ≡ place_of s.tags.items name
 
+-- the table with a place for a name, where it has none yet
 abbrev pub with_place : Option ℕ → List (List ℕ × ℕ) → List ℕ → ℕ → List (List ℕ × ℕ)
 with_place None places name place = places ++ (name, place) ∷ []
 with_place (Some first) places name place = places

@@ -9,9 +9,9 @@ use Rattle.st_types.proofs.Kept.{kept_kind, kept_integer}
 use Rattle.st_tree.specs.StatementFolds.{fold_branch, fold_element}
 use Rattle.st_tree.proofs.StatementEquations.{at-empty, at-assignment, at-blockcall, at-exit, at-return}
 use Rattle.st_types.proofs.Lists.{part_more, two_parts}
-use Rattle.st_types.proofs.Parts.{branch_is, element_is, if_is, case_is, for_is, of_part, with_part, others_of}
+use Rattle.st_types.proofs.Parts.{branch_is, element_is, if_is, case_is, for_is, of_part, with_part}
+use Rattle.st_types.specs.Inner.Parts.{behind_else}
 use Rattle.st_types.proofs.statements.+checking.Goals as goal
-use Rattle.st_types.proofs.statements.+checking.Goals.{statement_fault-in-Some+in_ok-others-in-Some, statement_fault-in-None, statement_fault-in-Some-otherwise+in_ok-others-in-Some-otherwise, statement_fault-in-None-otherwise}
 use Rattle.st_types.specs.Inner.Finds.{Finds}
 use Rattle.st_tree.specs.Tags.{tag_named}
 use Rattle.st_tree.specs.Typing.Faults.{fault_if, first_of}
@@ -44,41 +44,36 @@ statement_fault-returns-in-BlockCall t c = subst (λ l. Finds l c.call_fault.res
 pub statement_fault-returns-in-Exit : goal.statement_fault-returns-in-Exit
 statement_fault-returns-in-Exit t c = of_part (record { points = c.args.chassis.now; tags = c.args.tags.now }) c.args.loops.now c.args.statement.now _ (exit_faults c.args.loops.now c.in-Exit.place) _ c.in-Exit.is (ap (λ (f : Checks). f c.args.loops.now) (at-exit (statement_rules (record { points = c.args.chassis.now; tags = c.args.tags.now })) c.in-Exit.place)) (c.fault_if.ensures ∙ ap (λ b. first_of (fault_if b c.in-Exit.place cause.ExitOutside)) c.is_empty.ensures)
 
+pub statement_fault-returns-in_ok-body-in-For : goal.statement_fault-returns-in_ok-body-in-For
+statement_fault-returns-in_ok-body-in-For t c =
+    of_part (record { points = c.args.chassis.now; tags = c.args.tags.now }) c.args.loops.now c.args.statement.now _ _ _ c.in-For.is (for_is (record { points = c.args.chassis.now; tags = c.args.tags.now }) c.args.loops.now c.in-For.tag c.in-For.first c.in-For.last c.in-For.step c.in-For.body)
+    (c.soonest-in-For.ensures ∙ two_parts (for_faults c.args.chassis.now c.args.loops.now c.in-For.tag c.in-For.first c.in-For.last c.in-For.step (tag_named c.args.tags.now c.in-For.tag.name)) (flat_map (statement_faults (record { points = c.args.chassis.now; tags = c.args.tags.now }) (c.args.loops.now ++ c.in-For.tag.name ∷ [])) c.in-For.body) _ _ c.for_fault-numbers.ensures
+    (c.in_ok-body-in-For.ensures ∙ ap (λ ss. first_of (flat_map (statement_faults (record { points = c.args.chassis.now; tags = c.args.tags.now }) (c.args.loops.now ++ c.in-For.tag.name ∷ [])) ss)) c.as_slice-in-For.ensures))
+
 pub statement_fault-returns-in-Empty : goal.statement_fault-returns-in-Empty
 statement_fault-returns-in-Empty t c = of_part (record { points = c.args.chassis.now; tags = c.args.tags.now }) c.args.loops.now c.args.statement.now _ [] None c.in-Empty.is (ap (λ (f : Checks). f c.args.loops.now) (at-empty (statement_rules (record { points = c.args.chassis.now; tags = c.args.tags.now })))) refl
 
 pub statement_fault-returns-in-Return : goal.statement_fault-returns-in-Return
 statement_fault-returns-in-Return t c = of_part (record { points = c.args.chassis.now; tags = c.args.tags.now }) c.args.loops.now c.args.statement.now _ [] None c.in-Return.is (ap (λ (f : Checks). f c.args.loops.now) (at-return (statement_rules (record { points = c.args.chassis.now; tags = c.args.tags.now })))) refl
 
-pub statement_fault-returns-in_ok-body-in-For : goal.statement_fault-returns-in_ok-body-in-For
-statement_fault-returns-in_ok-body-in-For t c =
-    of_part (record { points = c.args.chassis.now; tags = c.args.tags.now }) c.args.loops.now c.args.statement.now _ _ _ c.in-For.is (for_is (record { points = c.args.chassis.now; tags = c.args.tags.now }) c.args.loops.now c.in-For.tag c.in-For.first c.in-For.last c.in-For.step c.in-For.body)
-    (c.soonest-in-For.ensures ∙ two_parts (for_faults c.args.chassis.now c.args.loops.now c.in-For.tag c.in-For.first c.in-For.last c.in-For.step (tag_named c.args.tags.now c.in-For.tag.name)) (flat_map (statement_faults (record { points = c.args.chassis.now; tags = c.args.tags.now }) (c.args.loops.now ++ c.in-For.tag.name ∷ [])) c.in-For.body) _ _ c.for_fault-fault.ensures
-    (c.in_ok-body-in-For.ensures ∙ λ i. first_of (flat_map (statement_faults (record { points = c.args.chassis.now; tags = c.args.tags.now }) ((c.as_slice-in-For.ensures.value ∙ c.in_ok-inner-in-For.ensures) i)) (c.as_slice-in-For-2.ensures i))))
-
-pub statement_fault-returns-after-otherwise : goal.statement_fault-returns-after-otherwise
-statement_fault-returns-after-otherwise t c =
-    let others : c.match-otherwise.others ≡ first_of (others_of (record { points = c.args.chassis.now; tags = c.args.tags.now }) c.args.loops.now c.in-If.otherwise) = elim c.match-otherwise.branch [
-      | statement_fault-in-Some+in_ok-others-in-Some w ↦ w.others-is ∙ (w.in_ok-others-in-Some.ensures ∙ ap first_of (ap (flat_map (statement_faults (record { points = c.args.chassis.now; tags = c.args.tags.now }) c.args.loops.now)) w.as_slice-in-Some.ensures ∙ sym (ap (others_of (record { points = c.args.chassis.now; tags = c.args.tags.now }) c.args.loops.now) w.in-Some.is)))
-      | statement_fault-in-None w ↦ w.others-is ∙ ap first_of (sym (ap (others_of (record { points = c.args.chassis.now; tags = c.args.tags.now }) c.args.loops.now) w.in-None.is))
-    ] in
+pub statement_fault-returns-in_ok-others-in-If : goal.statement_fault-returns-in_ok-others-in-If
+statement_fault-returns-in_ok-others-in-If t c =
+    let others : c.in_ok-others-in-If.others ≡ first_of (flat_map (statement_faults (record { points = c.args.chassis.now; tags = c.args.tags.now }) c.args.loops.now) (behind_else c.in-If.otherwise)) = c.in_ok-others-in-If.ensures ∙ ap (λ ss. first_of (flat_map (statement_faults (record { points = c.args.chassis.now; tags = c.args.tags.now }) c.args.loops.now) ss)) c.behind_else.ensures in
     let more : c.in_ok-more-in-If.more ≡ first_of (flat_map (λ b. fold_branch (statement_rules (record { points = c.args.chassis.now; tags = c.args.tags.now })) b c.args.loops.now) c.in-If.more) = c.in_ok-more-in-If.ensures ∙ ap (λ bs. first_of (flat_map (λ b. fold_branch (statement_rules (record { points = c.args.chassis.now; tags = c.args.tags.now })) b c.args.loops.now) bs)) c.as_slice.ensures in
     of_part (record { points = c.args.chassis.now; tags = c.args.tags.now }) c.args.loops.now c.args.statement.now _ _ _ c.in-If.is (if_is (record { points = c.args.chassis.now; tags = c.args.tags.now }) c.args.loops.now c.in-If.first c.in-If.more c.in-If.otherwise)
-    (c.soonest.ensures ∙ two_parts (fold_branch (statement_rules (record { points = c.args.chassis.now; tags = c.args.tags.now })) c.in-If.first c.args.loops.now ++ flat_map (λ b. fold_branch (statement_rules (record { points = c.args.chassis.now; tags = c.args.tags.now })) b c.args.loops.now) c.in-If.more) (others_of (record { points = c.args.chassis.now; tags = c.args.tags.now }) c.args.loops.now c.in-If.otherwise) _ _
-    (c.soonest-branches.ensures ∙ two_parts (fold_branch (statement_rules (record { points = c.args.chassis.now; tags = c.args.tags.now })) c.in-If.first c.args.loops.now) (flat_map (λ b. fold_branch (statement_rules (record { points = c.args.chassis.now; tags = c.args.tags.now })) b c.args.loops.now) c.in-If.more) _ _ c.in_ok-first-in-If.ensures more) others)
+    (c.soonest-in-If.ensures ∙ two_parts (fold_branch (statement_rules (record { points = c.args.chassis.now; tags = c.args.tags.now })) c.in-If.first c.args.loops.now ++ flat_map (λ b. fold_branch (statement_rules (record { points = c.args.chassis.now; tags = c.args.tags.now })) b c.args.loops.now) c.in-If.more) (flat_map (statement_faults (record { points = c.args.chassis.now; tags = c.args.tags.now }) c.args.loops.now) (behind_else c.in-If.otherwise)) _ _
+    (c.soonest.ensures ∙ two_parts (fold_branch (statement_rules (record { points = c.args.chassis.now; tags = c.args.tags.now })) c.in-If.first c.args.loops.now) (flat_map (λ b. fold_branch (statement_rules (record { points = c.args.chassis.now; tags = c.args.tags.now })) b c.args.loops.now) c.in-If.more) _ _ c.in_ok-first-in-If.ensures more) others)
 
-pub statement_fault-returns-after-otherwise-2 : goal.statement_fault-returns-after-otherwise-2
-statement_fault-returns-after-otherwise-2 t c =
-    let others : c.match-otherwise-2.others ≡ first_of (others_of (record { points = c.args.chassis.now; tags = c.args.tags.now }) c.args.loops.now c.in-Case.otherwise) = elim c.match-otherwise-2.branch [
-      | statement_fault-in-Some-otherwise+in_ok-others-in-Some-otherwise w ↦ w.others-is ∙ (w.in_ok-others-in-Some-otherwise.ensures ∙ ap first_of (ap (flat_map (statement_faults (record { points = c.args.chassis.now; tags = c.args.tags.now }) c.args.loops.now)) w.as_slice-in-Some-otherwise.ensures ∙ sym (ap (others_of (record { points = c.args.chassis.now; tags = c.args.tags.now }) c.args.loops.now) w.in-Some-otherwise.is)))
-      | statement_fault-in-None-otherwise w ↦ w.others-is ∙ ap first_of (sym (ap (others_of (record { points = c.args.chassis.now; tags = c.args.tags.now }) c.args.loops.now) w.in-None-otherwise.is))
-    ] in
+pub statement_fault-returns-in_ok-others-in-Case : goal.statement_fault-returns-in_ok-others-in-Case
+statement_fault-returns-in_ok-others-in-Case t c =
+    let others : c.in_ok-others-in-Case.others ≡ first_of (flat_map (statement_faults (record { points = c.args.chassis.now; tags = c.args.tags.now }) c.args.loops.now) (behind_else c.in-Case.otherwise)) = c.in_ok-others-in-Case.ensures ∙ ap (λ ss. first_of (flat_map (statement_faults (record { points = c.args.chassis.now; tags = c.args.tags.now }) c.args.loops.now) ss)) c.behind_else-in-Case.ensures in
     let found : c.as_integer-found.result ≡ as_integer (checked_of (typing_of c.args.tags.now c.in-Case.selector)) = c.as_integer-found.ensures ∙ ap as_integer c.type_expression.ensures in
-    let kind_is : c.kind-kind.result ≡ (type_in (operand.as_integer (typing_of c.args.tags.now c.in-Case.selector))) = c.kind-kind.ensures ∙ (ap kind_of found ∙ kept_kind (typing_of c.args.tags.now c.in-Case.selector)) in
+    let kind_is : c.kind.result ≡ (type_in (operand.as_integer (typing_of c.args.tags.now c.in-Case.selector))) = c.kind.ensures ∙ (ap kind_of found ∙ kept_kind (typing_of c.args.tags.now c.in-Case.selector)) in
+    let again : c.kind-in-Case.result ≡ (type_in (operand.as_integer (typing_of c.args.tags.now c.in-Case.selector))) = c.kind-in-Case.ensures ∙ (ap kind_of found ∙ kept_kind (typing_of c.args.tags.now c.in-Case.selector)) in
     let own : c.fault.result ≡ first_of (faults_of (operand.as_integer (typing_of c.args.tags.now c.in-Case.selector))) = c.fault.ensures ∙ (ap fault_of found ∙ sym (kept_integer (typing_of c.args.tags.now c.in-Case.selector))) in
     let first : c.in_ok-first-in-Case.first ≡ first_of (fold_element (statement_rules (record { points = c.args.chassis.now; tags = c.args.tags.now })) c.in-Case.first (type_in (operand.as_integer (typing_of c.args.tags.now c.in-Case.selector))) c.args.loops.now) = c.in_ok-first-in-Case.ensures ∙ ap (λ k. first_of (fold_element (statement_rules (record { points = c.args.chassis.now; tags = c.args.tags.now })) c.in-Case.first k c.args.loops.now)) kind_is in
-    let more : c.in_ok-more-in-Case.more ≡ first_of (flat_map (λ e. fold_element (statement_rules (record { points = c.args.chassis.now; tags = c.args.tags.now })) e (type_in (operand.as_integer (typing_of c.args.tags.now c.in-Case.selector))) c.args.loops.now) c.in-Case.more) = c.in_ok-more-in-Case.ensures ∙ λ i. first_of (flat_map (λ e. fold_element (statement_rules (record { points = c.args.chassis.now; tags = c.args.tags.now })) e (kind_is i) c.args.loops.now) (c.as_slice-in-Case.ensures i)) in
+    let more : c.in_ok-more-in-Case.more ≡ first_of (flat_map (λ e. fold_element (statement_rules (record { points = c.args.chassis.now; tags = c.args.tags.now })) e (type_in (operand.as_integer (typing_of c.args.tags.now c.in-Case.selector))) c.args.loops.now) c.in-Case.more) = c.in_ok-more-in-Case.ensures ∙ λ i. first_of (flat_map (λ e. fold_element (statement_rules (record { points = c.args.chassis.now; tags = c.args.tags.now })) e (again i) c.args.loops.now) (c.as_slice-in-Case.ensures i)) in
     of_part (record { points = c.args.chassis.now; tags = c.args.tags.now }) c.args.loops.now c.args.statement.now _ _ _ c.in-Case.is (case_is (record { points = c.args.chassis.now; tags = c.args.tags.now }) c.args.loops.now c.in-Case.selector c.in-Case.first c.in-Case.more c.in-Case.otherwise)
-    (c.soonest-in-Case-2.ensures ∙ two_parts ((faults_of (operand.as_integer (typing_of c.args.tags.now c.in-Case.selector)) ++ fold_element (statement_rules (record { points = c.args.chassis.now; tags = c.args.tags.now })) c.in-Case.first (type_in (operand.as_integer (typing_of c.args.tags.now c.in-Case.selector))) c.args.loops.now) ++ flat_map (λ e. fold_element (statement_rules (record { points = c.args.chassis.now; tags = c.args.tags.now })) e (type_in (operand.as_integer (typing_of c.args.tags.now c.in-Case.selector))) c.args.loops.now) c.in-Case.more) (others_of (record { points = c.args.chassis.now; tags = c.args.tags.now }) c.args.loops.now c.in-Case.otherwise) _ _
-    (c.soonest-elements.ensures ∙ two_parts (faults_of (operand.as_integer (typing_of c.args.tags.now c.in-Case.selector)) ++ fold_element (statement_rules (record { points = c.args.chassis.now; tags = c.args.tags.now })) c.in-Case.first (type_in (operand.as_integer (typing_of c.args.tags.now c.in-Case.selector))) c.args.loops.now) (flat_map (λ e. fold_element (statement_rules (record { points = c.args.chassis.now; tags = c.args.tags.now })) e (type_in (operand.as_integer (typing_of c.args.tags.now c.in-Case.selector))) c.args.loops.now) c.in-Case.more) _ _
+    (c.soonest-in-Case-3.ensures ∙ two_parts (((faults_of (operand.as_integer (typing_of c.args.tags.now c.in-Case.selector))) ++ fold_element (statement_rules (record { points = c.args.chassis.now; tags = c.args.tags.now })) c.in-Case.first (type_in (operand.as_integer (typing_of c.args.tags.now c.in-Case.selector))) c.args.loops.now) ++ flat_map (λ e. fold_element (statement_rules (record { points = c.args.chassis.now; tags = c.args.tags.now })) e (type_in (operand.as_integer (typing_of c.args.tags.now c.in-Case.selector))) c.args.loops.now) c.in-Case.more) (flat_map (statement_faults (record { points = c.args.chassis.now; tags = c.args.tags.now }) c.args.loops.now) (behind_else c.in-Case.otherwise)) _ _
+    (c.soonest-in-Case-2.ensures ∙ two_parts ((faults_of (operand.as_integer (typing_of c.args.tags.now c.in-Case.selector))) ++ fold_element (statement_rules (record { points = c.args.chassis.now; tags = c.args.tags.now })) c.in-Case.first (type_in (operand.as_integer (typing_of c.args.tags.now c.in-Case.selector))) c.args.loops.now) (flat_map (λ e. fold_element (statement_rules (record { points = c.args.chassis.now; tags = c.args.tags.now })) e (type_in (operand.as_integer (typing_of c.args.tags.now c.in-Case.selector))) c.args.loops.now) c.in-Case.more) _ _
     (c.soonest-in-Case.ensures ∙ two_parts (faults_of (operand.as_integer (typing_of c.args.tags.now c.in-Case.selector))) (fold_element (statement_rules (record { points = c.args.chassis.now; tags = c.args.tags.now })) c.in-Case.first (type_in (operand.as_integer (typing_of c.args.tags.now c.in-Case.selector))) c.args.loops.now) _ _ own first) more) others)
