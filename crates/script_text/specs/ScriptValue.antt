@@ -16,6 +16,11 @@ pub record ScriptValue : Type 0 where
   -- the AT lines with what stands below them
   pub moments : List MomentValue
 
+-- The script of these parts.
+abbrev pub script_value : List Point → List ℕ → List Leg → ℕ → List MomentValue → ScriptValue
+script_value points text schedule scans moments =
+    record { points = points; text = text; schedule = schedule; scans = scans; moments = moments }
+
 -- A script, the line of its word TEXT, and the lines of its words SWAP, in their order.
 pub record ReadScript : Type 0 where
   pub value : ScriptValue

@@ -1,8 +1,10 @@
-ghost use Rattle.std.specs.Prelude.{◌≡◌, map};
+ghost use Rattle.std.specs.Prelude.{◌≡◌, map, OnOk};
+ghost use Rattle.script_text.specs.Standing.{new_moment, with_line};
 
 use script_lines::{Block, Numbers};
+use std::alloc::Global;
 use std::marker::Model;
-use tri_base::{Leg, Name, Side, Text, Triple};
+use tri_base::{Leg, Name, NoMemory, Side, Text, Triple};
 
 /// What an input reads from a scan on.
 #[derive(Clone, Copy, Debug, PartialEq, Eq)]
@@ -73,6 +75,28 @@ impl Model for Moment {
 }
 
 impl Moment {
+    /// No lines yet of the scan with a number, from 1. It takes no memory.
+    pub fn new(alloc: Global, scan: u32) -> Moment
+        ensures { result ≡ new_moment scan }
+    {
+        Moment {
+            scan,
+            lines: Vec::new(alloc),
+            renames: Vec::new(alloc),
+            asks: Vec::new(alloc),
+        }
+    }
+
+    /// Adds a line behind the others.
+    pub fn add(&mut self, line: ScanLine) -> Result<(), NoMemory>
+        ensures { OnOk result (self.new ≡ with_line line self.old) }
+    {
+        let Ok(()) = self.lines.push(line) else {
+            return Err(NoMemory);
+        };
+        Ok(())
+    }
+
     /// The scan's number, from 1.
     pub fn scan(&self) -> u32
         ensures { result ≡ self.now.scan }

@@ -5,6 +5,7 @@ ghost use Rattle.script_lines.specs.Words.{words_of};
 ghost use Rattle.chassis.specs.Ranges.{is_within};
 ghost use Rattle.script_text.specs.Standing.{Standing, beginning, after, outside, worded, stated, may_stand, timed, is_time, poked, inside, opening, with_rename, with_ask, pointed, scans_to, at_scan, count_within, set_point, set_input, all_within, download, closed, blocked, line_added, with_last, with_line, address_limit};
 ghost use Rattle.script_text.specs.IsScript.{IsScript};
+ghost use Rattle.tri_base.specs.Limits.{scan_limit};
 ghost use Rattle.script_text.specs.Spells.{script_in};
 ghost use Rattle.script_text.specs.Inner.Steps.{Steps, finished};
 
@@ -235,7 +236,7 @@ impl Reader {
         Ok(())
     }
 
-    /// Takes a SCAN_TIME_LIMIT line's scan times.
+    /// Takes a TIME line's scan times.
     fn take_times(&mut self, reads: Triple<i64>) -> Result<(), LineFault>
         ensures step { Steps (timed self.old reads) result self.new }
         ensures line { self.new.line ≡ self.old.line }
@@ -335,12 +336,7 @@ impl Reader {
             return Err(LineFault::Cause(ScriptCause::Order));
         };
         self.moments
-            .push(Moment {
-                scan,
-                lines: Vec::new(self.alloc),
-                renames: Vec::new(self.alloc),
-                asks: Vec::new(self.alloc),
-            })
+            .push(Moment::new(self.alloc, scan))
             .map_err(|_| LineFault::NoMemory)?;
         self.part = Part::Moment;
         self.last = scan;

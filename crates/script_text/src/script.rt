@@ -1,6 +1,7 @@
 ghost use Rattle.std.specs.Prelude.{◌≡◌, map, option_map};
 ghost use Rattle.script_text.specs.Moments.{moment_at, download_in};
 ghost use Rattle.script_text.specs.IsScript.{IsBlock, IsScript};
+ghost use Rattle.script_text.specs.ScriptValue.{script_value};
 
 use crate::find_moment::find_moment;
 use crate::moment::{Moment, ScanLine};
@@ -50,6 +51,34 @@ impl Model for Script {
 }
 
 impl Script {
+    /// The script of these parts. In its text the words TEXT and SWAP stand in the given lines.
+    pub fn of(
+        chassis: Chassis,
+        text: Block,
+        schedule: Legs,
+        scans: u32,
+        moments: Vec<Moment>,
+        text_line: u32,
+        swap_lines: Vec<u32>,
+    ) -> Script
+        requires { IsScript (script_value chassis text schedule scans moments.items) }
+        ensures { result ≡ record {
+          value = script_value chassis text schedule scans moments.items;
+          text_line = text_line;
+          swap_lines = swap_lines.items;
+        } }
+    {
+        Script {
+            chassis,
+            text,
+            text_line,
+            swap_lines,
+            schedule,
+            scans,
+            moments,
+        }
+    }
+
     /// The number of scans, 1 to 2,000.
     pub fn scans(&self) -> u32
         ensures { result ≡ self.now.value.scans }
