@@ -13,25 +13,25 @@ use Rattle.st_tree.specs.declared.tag.Tag.{Tag}
 use Rattle.tag_layout.specs.declared.placed.PlacedTag.{PlacedTag}
 use Rattle.tag_layout.specs.Layout.{total_words, placed_tags, address_of, first_words}
 
--- an integer without a sign
+-- An integer without a sign.
 abbrev pub integer : ℕ → Integer
 integer n = record { sign = None; number = n; place = 0 }
 
--- an integer behind a minus sign
+-- An integer behind a minus sign.
 abbrev pub minus : ℕ → Integer
 minus n = record { sign = Some (sign.Minus, 0); number = n; place = 0 }
 
--- a tag of VAR, with a first value or none
+-- A tag of VAR, with a first value or none.
 abbrev pub variable : List ℕ → DeclaredType → Option Constant → Tag
 variable name declared constant =
     record { name = name; place = 0; declared = declared; constant = constant; external = false }
 
--- a tag of VAR_EXTERNAL
+-- A tag of VAR_EXTERNAL.
 abbrev pub point_tag : Kind → List ℕ → Tag
 point_tag k name =
     record { name = name; place = 0; declared = declared.Simple k; constant = None; external = true }
 
--- VAR A : ARRAY [1..3] OF INT := 2; X : INT; END_VAR
+-- `VAR A : ARRAY [1..3] OF INT := 2; X : INT; END_VAR`
 abbrev pub array_and_int : List Tag
 array_and_int =
     variable (codes "A") (declared.Array (integer 1) (integer 3) kind.Int) (Some (constant.Integer (integer 2)))
@@ -39,7 +39,7 @@ array_and_int =
     ∷ []
 
 -- VAR_EXTERNAL START, PUMP : BOOL; END_VAR
--- VAR A : ARRAY [-1..1] OF INT := 2; EDGE : F_TRIG; READY : BOOL := TRUE; N : DINT; END_VAR
+-- `VAR A : ARRAY [-1..1] OF INT := 2; EDGE : F_TRIG; READY : BOOL := TRUE; N : DINT; END_VAR`
 abbrev pub ten_words : List Tag
 ten_words =
     point_tag kind.Bool (codes "START")
@@ -50,11 +50,11 @@ ten_words =
     ∷ variable (codes "N") (declared.Simple kind.Dint) None
     ∷ []
 
--- VAR A : ARRAY [0..4096] OF BOOL; END_VAR
+-- `VAR A : ARRAY [0..4096] OF BOOL; END_VAR`
 abbrev pub large_array : List Tag
 large_array = variable (codes "A") (declared.Array (integer 0) (integer 4096) kind.Bool) None ∷ []
 
--- three analogue inputs, eight discrete inputs and four outputs; two BOOLs, a TON and an INT
+-- Three analogue inputs, eight discrete inputs and four outputs; two BOOLs, a TON and an INT.
 abbrev pub trip : List Tag
 trip =
     map (point_tag kind.Int) (codes "P1" ∷ codes "P2" ∷ codes "P3" ∷ [])
@@ -67,11 +67,11 @@ trip =
     ∷ variable (codes "N") (declared.Simple kind.Int) None
     ∷ []
 
--- the addresses of these tags
+-- The addresses of these tags.
 abbrev pub addresses : List Tag → List ℕ
 addresses tags = map (λ (p : PlacedTag). p.address) (placed_tags tags)
 
--- what they are
+-- What they are.
 pub record Worked : Type 0 where
   pub array_words : total_words array_and_int ≡ 4
   pub array_addresses : addresses array_and_int ≡ 0 ∷ 3 ∷ []

@@ -10,7 +10,7 @@ use Rattle.st_core.specs.Memory.{Shape, address_of}
 
 -- ---- terms
 
--- the instruction of an operator
+-- The instruction of an operator.
 abbrev pub unary_instr : UnaryOperator → Instr
 unary_instr (c.Negate kind) = i.Neg kind
 unary_instr (c.Absolute kind) = i.Abs kind
@@ -18,7 +18,7 @@ unary_instr (c.Convert kind) = i.Convert kind
 unary_instr c.Not = i.Not
 unary_instr (c.Within first last) = i.Within first last
 
--- the instruction of an operator
+-- The instruction of an operator.
 abbrev pub binary_instr : BinaryOperator → Instr
 binary_instr (c.Add kind) = i.Add kind
 binary_instr (c.Subtract kind) = i.Sub kind
@@ -37,12 +37,12 @@ binary_instr c.IsAbove = i.Gt
 binary_instr c.IsAtMost = i.Le
 binary_instr c.IsAtLeast = i.Ge
 
--- the instruction of an operator
+-- The instruction of an operator.
 abbrev pub ternary_instr : TernaryOperator → Instr
 ternary_instr c.Limit = i.Limit
 ternary_instr c.Select = i.Select
 
--- the instructions of a term: its operands in their order, and then the operator
+-- The instructions of a term: its operands in their order, and then the operator.
 unfoldable pub term_code : Shape → Term → List Instr
 term_code shape (c.Literal v) = i.Push v ∷ []
 term_code shape (c.Field n k kind) = i.Load (address_of n shape + k) kind ∷ []
@@ -55,22 +55,22 @@ term_code shape (c.Ternary o t u w) =
 
 -- ---- acts
 
--- where a piece of code begins, where EXIT leads, and where RETURN leads
+-- Where a piece of code begins, where EXIT leads, and where RETURN leads.
 pub record Spot : Type 0 where
   pub at : ℕ
   pub exit : ℕ
   pub finish : ℕ
 
--- another beginning, where EXIT and RETURN lead to the same places
+-- Another beginning, where EXIT and RETURN lead to the same places.
 abbrev pub moved : Spot → ℕ → Spot
 moved spot at = record { at = at; exit = spot.exit; finish = spot.finish }
 
--- how many instructions a loop has round its body
+-- How many instructions a loop has round its body.
 abbrev pub loop_size : List ℤ → ℕ → ℕ
 loop_size [] body = 0
 loop_size (v ∷ vs) body = 2 + body + 1
 
--- how many instructions an act has
+-- How many instructions an act has.
 unfoldable pub size_of : Act → ℕ
 size_of c.Skip = 0
 size_of (c.Then a b) = size_of a + size_of b
@@ -82,16 +82,16 @@ size_of (c.For n kind first last step a) = loop_size (written first last step) (
 size_of c.Exit = 1
 size_of c.Return = 1
 
--- the first number is set, and the body stands before a Next that goes back to it
+-- The first number is set, and the body stands before a Next that goes back to it.
 abbrev pub loop_code : List ℤ → Instr → Instr → List Instr → Instr → List Instr
 loop_code [] push store body next = []
 loop_code (v ∷ vs) push store body next = push ∷ (store ∷ (body ++ next ∷ []))
 
--- the place of a loop's body of this size: EXIT leads behind the Next
+-- The place of a loop's body of this size: EXIT leads behind the Next.
 abbrev pub inner : Spot → ℕ → Spot
 inner spot size = record { at = spot.at + 2; exit = spot.at + 2 + size + 1; finish = spot.finish }
 
--- the instructions of an act
+-- The instructions of an act.
 unfoldable pub act_code : Shape → Act → Spot → List Instr
 act_code shape c.Skip spot = []
 act_code shape (c.Then a b) spot = act_code shape a spot ++ act_code shape b (moved spot (spot.at + size_of a))
@@ -110,17 +110,17 @@ act_code shape (c.For n kind first last step a) spot =
 act_code shape c.Exit spot = i.Jump spot.exit ∷ []
 act_code shape c.Return spot = i.Jump spot.finish ∷ []
 
--- where a piece of so many instructions leads
+-- Where a piece of so many instructions leads.
 abbrev pub lands : Spot → ℕ → Ends → ℕ
 lands spot size Onward = spot.at + size
 lands spot size Exits = spot.exit
 lands spot size Returns = spot.finish
 
--- the code of a whole body, where RETURN leads to its end
+-- The code of a whole body, where RETURN leads to its end.
 abbrev pub body_code : Shape → Act → List Instr
 body_code shape a = act_code shape a (record { at = 0; exit = 0; finish = size_of a })
 
--- the name is one of these
+-- The name is one of these.
 unfoldable pub IsOpen : Name → List Name → Type 0
 IsOpen n [] = ⊥
 IsOpen n (m ∷ ms) = (n ≡ m) ⊎ IsOpen n ms

@@ -8,7 +8,7 @@ use Rattle.st_types.specs.Inner.Places.{place_of}
 use Rattle.tag_layout.specs.Layout.{total_words, placed_tags, AreApart}
 use Rattle.tag_layout.specs.declared.layout.Layout.TheInside.{Inside}
 
--- the fields of a layout say the same
+-- The fields of a layout say the same.
 pub record IsKept (s : Inside) : Type 0 where
   pub placed : s.placed.items ≡ placed_tags s.tags.items
   pub places : (name : List ℕ) → lookup (same_name name) s.places.entries ≡ place_of s.tags.items name
