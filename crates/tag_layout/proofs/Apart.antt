@@ -1,13 +1,12 @@
 -- A well-typed program declares no name twice.
-use Rattle.std.proofs.Common.{◌≡◌, ◌≢◌, ℕ, ◌<◌, Bool, true, false, ◌||◌, List, [], ◌∷◌, ◌++◌, length, get_or, refl, sym, ap, ◌∙◌, true≢false, arith}
-use Rattle.std.specs.List.{All, AllPairs, list_any}
+use Rattle.std.proofs.Common.{◌≡◌, ◌≢◌, ℕ, Bool, true, false, ◌||◌, List, [], ◌∷◌, ◌++◌, refl, sym, ◌∙◌, true≢false, arith}
+use Rattle.std.specs.List.{All, list_any}
 use Rattle.std.specs.Str.{bytes_eq}
 use Rattle.std.proofs.lemmas.Slice.Eq.{bytes_eq-Decides}
 use Rattle.std.proofs.lemmas.List.Elements.{All-nil, All-cons, All-weaker}
 use Rattle.std.proofs.lemmas.List.Folds.{list_any-append}
 use Rattle.std.proofs.lemmas.List.Kept.{AllPairs-cons}
 use Rattle.tri_base.specs.declared.point.Point.{Point}
-use Rattle.tri_base.specs.declared.faults.TypeFault.{TypeFault}
 use Rattle.st_tree.specs.declared.program.Tree.{Tree}
 use Rattle.st_tree.specs.declared.tag.Tag.{Tag}
 use Rattle.st_tree.specs.Tags.{tags_of}

@@ -1,5 +1,5 @@
 -- The first words: those of each tag, one behind the other.
-use Rattle.std.proofs.Common.{◌≡◌, ℕ, ◌<◌, ◌≤◌, ◌+◌, zero, suc, ℤ, pos, List, [], ◌∷◌, ◌++◌, length, map, take, get_or, replicate, slice_get, Option, Some, None, refl, sym, ap, ◌∙◌, arith, take_all, append_assoc}
+use Rattle.std.proofs.Common.{◌≡◌, ℕ, ◌<◌, ◌≤◌, ◌+◌, zero, suc, ℤ, pos, List, [], ◌∷◌, ◌++◌, length, map, take, get_or, slice_get, Option, Some, None, refl, sym, ap, ◌∙◌, take_all, append_assoc}
 use Rattle.std.specs.Option.{option_map}
 use Rattle.std.specs.List.{flat_map}
 use Rattle.std.proofs.lemmas.List.{take_more, length-replicate, length-map}
@@ -14,7 +14,7 @@ use Rattle.st_tree.specs.declared.declaration.Constant.{Constant}
 use Rattle.st_tree.specs.declared.declaration.DeclaredType.{DeclaredType}
 use Rattle.st_tree.specs.declared.declaration.DeclaredType.TheVariants as declared
 use Rattle.st_tree.specs.declared.tag.Tag.{Tag}
-use Rattle.tag_layout.specs.Layout.{type_of, type_of_kind, type_of_block, words_of, words_of_tag, count_between, first_number, first_numbers, first_environment, first_words, laid_words, IsEnvironmentOf, Laid}
+use Rattle.tag_layout.specs.Layout.{type_of, type_of_kind, type_of_block, words_of, count_between, first_number, first_numbers, first_environment, first_words, laid_words, IsEnvironmentOf, Laid}
 
 -- ---- how many words
 

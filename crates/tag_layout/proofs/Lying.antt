@@ -5,11 +5,10 @@ use Rattle.std.specs.List.{All, AllPairs, find}
 use Rattle.std.specs.Str.{bytes_eq}
 use Rattle.std.proofs.lemmas.Bool.Decides.{nat_tests}
 use Rattle.std.proofs.lemmas.Slice.Eq.{bytes_eq-Decides}
-use Rattle.std.proofs.lemmas.List.Sums.{sum_by-take-le}
 use Rattle.tri_base.specs.Limits.{word_limit}
 use Rattle.st_tree.specs.declared.tag.Tag.{Tag}
 use Rattle.tag_layout.specs.declared.placed.PlacedTag.{PlacedTag}
-use Rattle.tag_layout.specs.Layout.{words_of, words_of_tag, total_words, placed_tag, placed_tags, placed_named, field_address, address_of, AreApart}
+use Rattle.tag_layout.specs.Layout.{words_of, words_of_tag, total_words, placed_tags, placed_named, field_address, address_of, AreApart}
 use Rattle.tag_layout.proofs.Placing.{some_tag, total_more, total_part, length_placed, placed_get}
 
 within_tags : (tags : List Tag) (k : ℕ) → k < length (placed_tags tags) → k < length tags

@@ -1,6 +1,6 @@
 -- Each number of an environment stands at the address of its field.
 use Rattle.std.proofs.Common.{◌≡◌, ℕ, ◌<◌, ◌≤◌, ◌+◌, zero, suc, ℤ, Bool, true, false, nat_lt, List, [], ◌∷◌, ◌++◌, length, map, take, slice_get, cond, Option, Some, None, refl, sym, ap, ◌∙◌, arith, append_assoc, length-append, if◌then◌else◌}
-use Rattle.std.specs.List.{flat_map, find, enumerate_from, sum_by}
+use Rattle.std.specs.List.{flat_map, find, enumerate_from}
 use Rattle.std.specs.Str.{bytes_eq}
 use Rattle.std.proofs.lemmas.Bool.Decides.{nat_tests}
 use Rattle.std.proofs.lemmas.Option.{slice_get_past}
@@ -8,7 +8,7 @@ use Rattle.std.proofs.lemmas.List.Sums.{sum_by-cons, sum_by-append}
 use Rattle.std.proofs.Math.Seq.{take-append_seam}
 use Rattle.st_tree.specs.declared.tag.Tag.{Tag}
 use Rattle.tag_layout.specs.declared.placed.PlacedTag.{PlacedTag}
-use Rattle.tag_layout.specs.Layout.{words_of_tag, total_words, placed_tag, placed_tags, placed_named, field_address, address_of, Environment, name_and_words, name_and_count, IsEnvironmentOf, laid_words, Laid, number_in, number_of, word_at}
+use Rattle.tag_layout.specs.Layout.{words_of_tag, total_words, placed_tag, placed_tags, placed_named, field_address, address_of, Environment, name_and_words, name_and_count, laid_words, Laid, number_in, number_of, word_at}
 use Rattle.tag_layout.proofs.Placing.{placed_in}
 
 -- the tags one behind the other, from an address on

@@ -1,5 +1,5 @@
 -- Layouts worked by hand.
-use Rattle.std.specs.Prelude.{◌≡◌, ℕ, ℤ, pos, Bool, true, false, List, [], ◌∷◌, ◌++◌, map, codes, Option, Some, None, Result, Ok, Err}
+use Rattle.std.specs.Prelude.{◌≡◌, ℕ, pos, true, false, List, [], ◌∷◌, ◌++◌, map, codes, Option, Some, None}
 use Rattle.function_blocks.specs.declared.kinds.Kind.{Kind}
 use Rattle.function_blocks.specs.declared.kinds.Kind.TheVariants as kind
 use Rattle.function_blocks.specs.declared.blocks.BlockKind.TheVariants as block

@@ -1,4 +1,4 @@
-use Rattle.std.proofs.Common.{◌≡◌, ◌<◌, ◌≤◌, length, FitsSigned, w64, to_z, of_z, rules, arith, sym, ◌∙◌}
+use Rattle.std.proofs.Common.{◌<◌, ◌≤◌, length, FitsSigned, w64, to_z, of_z, rules, arith, ◌∙◌}
 use Rattle.std.proofs.lemmas.Int.{to_z-of_z}
 use Rattle.function_blocks.specs.Fields.{first_values}
 use Rattle.tag_layout.proofs.FirstValues.{values_more, values_whole, value_count}

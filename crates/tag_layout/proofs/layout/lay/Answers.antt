@@ -1,5 +1,4 @@
-use Rattle.std.proofs.Common.{◌≡◌, ◌≤◌, List, min, sym, ap, subst, ◌∙◌}
-use Rattle.st_tree.specs.declared.tag.Tag.{Tag}
+use Rattle.std.proofs.Common.{◌≡◌, min, sym, ap, subst, ◌∙◌}
 use Rattle.st_tree.specs.Tags.{tags_of}
 use Rattle.st_types.specs.Inner.Places.{place_of}
 use Rattle.tag_layout.specs.Layout.{total_words, placed_tags, greatest_told, AreApart}

@@ -1,5 +1,4 @@
-use Rattle.std.proofs.Common.{◌≡◌, ◌+◌, ap, sym, ◌∙◌}
-use Rattle.tag_layout.specs.Layout.{total_words}
+use Rattle.std.proofs.Common.{◌+◌, sym, ◌∙◌}
 use Rattle.tag_layout.proofs.Placing.{place_more, place_whole, total_more}
 use Rattle.tag_layout.proofs.placed.place_tags.Goals as goal
 
