@@ -1,7 +1,6 @@
 -- What is voted lies between the readings of any two legs.
-use Rattle.std.specs.Prelude.{Option, Some, None, slice_get, option_map, option_to_list}
-use Rattle.std.specs.Int.{int_min, int_max}
-use Rattle.std.proofs.Common.{◌≡◌, ℕ, zero, suc, ◌+◌, ℤ, pos, negsuc, ◌≤ℤ◌, Bool, true, false, not, List, [], ◌∷◌, drop, refl, sym, ap, subst, ◌∙◌, arith}
+use Rattle.std.specs.Prelude.{Option, Some, None, slice_get, option_map}
+use Rattle.std.proofs.Common.{◌≡◌, ℕ, zero, suc, ◌+◌, ℤ, pos, negsuc, ◌≤ℤ◌, Bool, true, false, List, [], ◌∷◌, drop, refl, sym, ap, subst, ◌∙◌, arith}
 use Rattle.std.specs.List.{All, AllByRecursion, AllZip}
 use Rattle.std.proofs.lemmas.Int.{ints, clamps}
 use Rattle.std.proofs.lemmas.List.Elements.{All-filter, recursion_from_All}
@@ -14,9 +13,9 @@ use Rattle.chassis.specs.Ranges.{Fits, HasRange, IsDiscreteRange, IsWithin}
 use Rattle.leg_packet.specs.Readings.{Readings, readings_of}
 use Rattle.vote_discrete.specs.Majority.{vote_of}
 use Rattle.vote_discrete.specs.Truths.{is_on, number, truths}
-use Rattle.vote_analog.specs.Middle.{LiesBetween, LiesBetweenAny, mid_of}
+use Rattle.vote_analog.specs.Middle.{LiesBetween, mid_of}
 use Rattle.vote_analog.proofs.Ranges.{between_any}
-use Rattle.input_legs.specs.VotedSheets.{LieBetween, LiesBetweenAnyTwo, LiesBetweenTwo, VotedSheet, column, read_three, reading_at, time_of, times_of, vote_sheet_of, voted_from, voted_value}
+use Rattle.input_legs.specs.VotedSheets.{LieBetween, LiesBetweenAnyTwo, LiesBetweenTwo, VotedSheet, column, read_three, reading_at, times_of, vote_sheet_of, voted_from, voted_value}
 use Rattle.input_legs.proofs.Readings.{Stands, stands}
 
 -- ---- discrete values

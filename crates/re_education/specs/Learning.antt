@@ -1,5 +1,5 @@
 -- How a leg learns the memory that its two neighbours show, window by window. Own rule.
-use Rattle.std.specs.Prelude.{◌≡◌, ℕ, ℤ, pos, nat_abs, ◌+◌, ◌*◌, ◌%◌, ◌≤◌, ◌<◌, ◌==◌, ◌&&◌, nat_lt, Bool, true, false, List, [], ◌∷◌, length, take, drop, map, replicate, Option, Some, None, if◌then◌else◌}
+use Rattle.std.specs.Prelude.{◌≡◌, ℕ, ℤ, pos, nat_abs, ◌+◌, ◌*◌, ◌%◌, ◌≤◌, ◌<◌, ◌==◌, ◌&&◌, nat_lt, Bool, true, false, List, length, take, drop, map, replicate, Option, Some, None, if◌then◌else◌}
 use Rattle.std.specs.List.{All}
 use Rattle.tri_base.specs.Limits.{text_limit, word_limit}
 use Rattle.leg_packet.specs.Sheets.{IsByte, Sheet, epoch_limit, sheet_of, windows_of}

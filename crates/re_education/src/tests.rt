@@ -123,7 +123,12 @@ fn a_rotation_gives_the_memory_as_it_is_now(rt: HostRuntime) -> Result<(), Fail>
 
 /// A running result of the longest text and the most words, all of them 7.
 fn longest(alloc: Global, turn: u16) -> Result<Packet, NoMemory> {
-    packet_of(alloc, &[2, 0, i64::from(turn), 16_384, 4_096], &[7; 64], &[0])
+    packet_of(
+        alloc,
+        &[2, 0, i64::from(turn), 16_384, 4_096],
+        &[7; 64],
+        &[0],
+    )
 }
 
 /// Whether this window is learned as the next one from turn 0 on.
@@ -138,9 +143,11 @@ fn ends(learner: &mut Learner, alloc: Global) -> Result<bool, NoMemory> {
     match learner.learn(alloc, &packet, &packet)? {
         Progress::Ready(image) => {
             let items = image.words.items();
-            Ok(image.text.len() == 16_384
-                && items.len() == 4_096
-                && items.last().copied() == Some(7))
+            Ok(
+                image.text.len() == 16_384
+                    && items.len() == 4_096
+                    && items.last().copied() == Some(7),
+            )
         }
         _ => Ok(false),
     }
