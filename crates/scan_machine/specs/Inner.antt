@@ -4,3 +4,4 @@ pub mod Loops
 pub mod FirstFault
 pub mod Groups
 pub mod Waiting
+pub mod Kinds

@@ -7,10 +7,11 @@ ghost use Rattle.scan_machine.specs.Inner.Waiting.{waiting, here};
 ghost use Rattle.tri_base.specs.Noted.{TouchedValue};
 ghost use Rattle.scan_machine.specs.Inner.Groups.{IsNext};
 
+use crate::clamping::clamp_to;
 use crate::instructions::Instr;
 use crate::memory::put;
 use crate::stack::{Places, pop};
-use function_blocks::{clamp_to, is_on};
+use function_blocks::is_on;
 use tri_base::Touched;
 
 /// Pops an operand, and goes to the target where it is FALSE.

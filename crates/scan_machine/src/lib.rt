@@ -2,6 +2,7 @@
 //! run of code that keeps them.
 #![tactic(auto)]
 
+mod clamping;
 mod counting;
 mod depths;
 mod instructions;

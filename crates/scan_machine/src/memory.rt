@@ -11,9 +11,10 @@ ghost use Rattle.scan_machine.specs.Machine.{does, read, load_at, noted_all, wor
 ghost use Rattle.scan_machine.specs.Inner.Waiting.{waiting, here};
 ghost use Rattle.scan_machine.specs.Inner.Groups.{IsLoadAt, IsStoreAt};
 
+use crate::clamping::clamp_to;
 use crate::instructions::Instr;
 use crate::stack::{Places, pop, pop_two, push};
-use function_blocks::{BlockKind, Kind, bounded, clamp_to, field_count, step_block};
+use function_blocks::{BlockKind, Kind, bounded, field_count, step_block};
 use tri_base::Touched;
 
 /// Pushes a constant.

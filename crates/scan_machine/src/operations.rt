@@ -3,9 +3,10 @@
 ghost use Rattle.std.specs.Prelude.{◌≡◌, ◌<◌, ◌≤◌, ◌+◌};
 ghost use Rattle.scan_machine.specs.Inner.Waiting.{Operates};
 
+use crate::clamping::{exact, quotient, remainder};
 use crate::instructions::Instr;
 use crate::stack::{Places, pop, pop_two, push, push_computed, push_truth};
-use function_blocks::{Kind, exact, is_on, quotient, remainder};
+use function_blocks::{Kind, is_on};
 
 /// Turns the sign.
 #[inline(always)]

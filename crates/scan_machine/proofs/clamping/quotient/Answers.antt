@@ -1,0 +1,6 @@
+use Rattle.function_blocks.proofs.Dividing.{quotient_is}
+use Rattle.scan_machine.proofs.clamping.quotient.Goals as goal
+
+pub returns-else-divisor-eq0-clause-value : goal.returns-else-divisor-eq0-clause-value
+returns-else-divisor-eq0-clause-value c =
+    quotient_is c.args.kind c.args.dividend c.args.divisor c.requires.dividend c.requires.divisor c.if-divisor-eq0.false c.exact.result c.exact.ensures.value
