@@ -1,4 +1,4 @@
--- The elements of an array, which has one word for each index from the lowest to the highest.
+-- The elements of an array, which has one word for each index from the lowest to the highest. Own rule.
 use Rattle.std.specs.Prelude.{◌≡◌, ℕ, ◌+◌, ℤ, ◌-ℤ◌, ◌≤ℤ◌, unsigned_abs}
 
 -- the word of the element at an index, where the word of the lowest index is at the address

@@ -1,4 +1,4 @@
--- What each instruction of the scan machine does.
+-- What each instruction of the scan machine does. Own rule.
 use Rattle.std.specs.Prelude.{◌≡◌, ℕ, zero, suc, ◌+◌, ℤ, pos, ◌+ℤ◌, ◌-ℤ◌, ◌*ℤ◌, neg_ℤ, int_lt, unsigned_abs, Bool, false, not, ◌&&◌, ◌||◌, if◌then◌else◌, List, [], ◌∷◌, ◌++◌, Option, None, Some, length, take, drop, slice_index_or, slice_set, slice_get}
 use Rattle.std.specs.Option.{option_and_then}
 use Rattle.std.specs.Int.{int_max, int_min}

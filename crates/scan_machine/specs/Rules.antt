@@ -1,4 +1,4 @@
--- The five rules that each instruction of verified code keeps, as statements about the whole list.
+-- The five rules that each instruction of verified code keeps, as statements about the whole list. Own rule.
 use Rattle.std.specs.Prelude.{◌≡◌, ℕ, ◌+◌, ◌-◌, ◌<◌, ◌≤◌, ℤ, pos, ◌≤ℤ◌, ◌≢◌, ◌⊎◌, List, Option, None, Some, length, take, fold, slice_get, IfSome}
 use Rattle.function_blocks.specs.declared.kinds.Kind.TheVariants as kinds
 use Rattle.function_blocks.specs.declared.kinds.Kind.{Kind}

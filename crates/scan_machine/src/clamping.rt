@@ -9,9 +9,8 @@ ghost use Rattle.scan_machine.specs.Inner.Kinds.{place_of};
 
 use function_blocks::{Computed, Kind};
 
-// The least and the greatest value of each kind, in the kinds' order.
-static LEAST: [i64; 3] = [0, -32_768, -2_147_483_648];
-static GREATEST: [i64; 3] = [1, 32_767, 2_147_483_647];
+// The least value of each kind, in the kinds' order, and then the greatest of each.
+static BOUNDS: [i64; 6] = [0, -32_768, -2_147_483_648, 1, 32_767, 2_147_483_647];
 
 /// The number as a value of the kind.
 #[inline(always)]
@@ -88,7 +87,7 @@ fn is_of(kind: Kind, value: i64) -> bool
 fn least(kind: Kind) -> i64
     ensures { result ≡ least kind }
 {
-    LEAST[place_of(kind)]
+    BOUNDS[place_of(kind)]
 }
 
 // The greatest value of the kind.
@@ -96,10 +95,10 @@ fn least(kind: Kind) -> i64
 fn greatest(kind: Kind) -> i64
     ensures { result ≡ greatest kind }
 {
-    GREATEST[place_of(kind)]
+    BOUNDS[place_of(kind) + 3]
 }
 
-// The place of the kind in the tables.
+// The place of the kind in the table.
 #[inline(always)]
 fn place_of(kind: Kind) -> usize
     ensures { result ≡ place_of kind }

@@ -36,7 +36,8 @@ pub(crate) fn step(
     requires from { pos 0 ≤ℤ dt }
     requires to { dt ≤ℤ pos 10_000 }
     requires touched { length words.old ≤ touched.old.size }
-    ensures value { does dt instr.now (here index places.old depth.old words.old flag.old touched.old)
+    ensures value { does dt instr.now
+        (here index places.old depth.old words.old flag.old touched.old)
         ≡ Some (here result places.new depth.new words.new flag.new touched.new) }
     ensures depth { depth.new + takes instr.now ≡ depth.old + gives instr.now }
     ensures size { touched.new.size ≡ touched.old.size }
