@@ -7,7 +7,6 @@ use Rattle.function_blocks.specs.declared.kinds.Kind.{Kind}
 use Rattle.scan_machine.specs.declared.instructions.Instr.{Instr}
 use Rattle.scan_machine.specs.declared.instructions.Instr.TheVariants as i
 use Rattle.scan_machine.specs.Rules.{HasTarget, HasLoop, Nest, NestsWith, StoresTo}
-use Rattle.scan_machine.specs.Inner.Reaches.{Lies, store_reach}
 use Rattle.scan_machine.specs.Inner.Loops.{StartsFrom, IsAlone}
 use Rattle.scan_machine.specs.Inner.FirstFault.{HaveTargets}
 

@@ -1,10 +1,8 @@
 -- What is on the stack after an instruction that works on operands alone.
-use Rattle.std.proofs.Common.{◌≡◌, ℤ, Bool, List, ◌∷◌, Option, Some, to_z, of_z, w64, arith, sym, ap, refl, ◌∙◌}
-use Rattle.std.proofs.lemmas.Int.{ints}
+use Rattle.std.proofs.Common.{◌≡◌, ℤ, Bool, List, ◌∷◌, Some, sym, ap, ◌∙◌}
 use Rattle.function_blocks.specs.declared.kinds.Kind.{Kind}
 use Rattle.function_blocks.specs.declared.arithmetic.Computed.{Computed}
 use Rattle.scan_machine.specs.declared.instructions.Instr.{Instr}
-use Rattle.function_blocks.specs.Values.{IsOperand}
 use Rattle.function_blocks.specs.Arithmetic.{exact}
 use Rattle.scan_machine.specs.Machine.{Operated, operate, on_top}
 

@@ -1,7 +1,6 @@
 -- What one instruction leaves as it was, and where it leads.
-use Rattle.std.proofs.Common.{◌≡◌, ℕ, ◌+◌, ◌-◌, ◌<◌, ◌≤◌, ◌⊎◌, ℤ, pos, ◌+ℤ◌, ◌-ℤ◌, ◌≤ℤ◌, Bool, true, false, ◌||◌, if◌then◌else◌, Option, Some, None, List, [], ◌∷◌, ◌++◌, length, take, drop, get_or, arith, sym, subst, ap, ◌∙◌, refl, inl, inr, length-take}
-use Rattle.std.specs.Prelude.{slice_index_or, slice_set, unsigned_abs}
-use Rattle.std.specs.Int.RustNames.{int_le}
+use Rattle.std.proofs.Common.{◌≡◌, ℕ, ◌+◌, ◌-◌, ◌<◌, ◌≤◌, ◌⊎◌, ℤ, pos, ◌+ℤ◌, ◌≤ℤ◌, Bool, true, false, ◌||◌, if◌then◌else◌, Option, Some, None, List, [], ◌∷◌, ◌++◌, length, take, drop, get_or, arith, sym, subst, ap, ◌∙◌, refl, inl, inr, length-take}
+use Rattle.std.specs.Prelude.{slice_index_or, slice_set}
 use Rattle.std.proofs.lemmas.Int.{ints, clamps}
 use Rattle.std.proofs.lemmas.Bool.{cases_lt}
 use Rattle.std.proofs.lemmas.List.{get_or-set_other, get_or-drop, get_or-take}
@@ -18,7 +17,6 @@ use Rattle.function_blocks.specs.Blocks.{step_block}
 use Rattle.function_blocks.specs.Arithmetic.{bounded}
 use Rattle.scan_machine.specs.Elements.{element, IsElement}
 use Rattle.scan_machine.specs.Machine.{is_past}
-use Rattle.scan_machine.specs.Inner.Reaches.{Lies, array_reach}
 use Rattle.scan_machine.specs.Rules.{HasWords, HasConstants, StoresTo}
 use Rattle.scan_machine.specs.Machine.{State, Operated, onward, store, operated, operate, load_at, stored, stored_at, chosen, called, read, with_words, words_at, does}
 use Rattle.scan_machine.proofs.Calling.{length-step_block, fields_some}

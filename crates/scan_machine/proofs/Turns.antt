@@ -16,7 +16,6 @@ use Rattle.function_blocks.specs.Values.{is_on, number, clamped}
 use Rattle.scan_machine.specs.Machine.{is_past}
 use Rattle.scan_machine.specs.Machine.{read}
 use Rattle.scan_machine.specs.Rules.{IsOf, HasConstants, HasTarget, HasLoop, IsVerified, StoresTo}
-use Rattle.scan_machine.specs.Inner.Reaches.{Lies, store_reach}
 use Rattle.scan_machine.proofs.Alone.{starts_from}
 use Rattle.scan_machine.proofs.Digits.{value, value_less}
 

@@ -1,6 +1,6 @@
-// The instructions that work on words. Each says which instruction comes next.
+// The instructions that work on words. Each answers None, since the one behind comes next.
 
-ghost use Rattle.std.specs.Prelude.{ℕ, ℤ, Bool, ◌||◌, ◌≡◌, ◌<◌, ◌≤◌, ◌+◌, ◌^◌, ◌≤ℤ◌, ◌-ℤ◌, pos, ◌∷◌, Some, length, slice_set, slice_index_or, unsigned_abs};
+ghost use Rattle.std.specs.Prelude.{ℕ, ℤ, Bool, ◌||◌, ◌≡◌, ◌<◌, ◌≤◌, ◌+◌, ◌^◌, ◌≤ℤ◌, ◌-ℤ◌, pos, ◌∷◌, None, Some, length, slice_set, slice_index_or, unsigned_abs};
 ghost use Rattle.tri_base.specs.Noted.{noted, TouchedValue};
 ghost use Rattle.function_blocks.specs.Values.{IsOperand};
 ghost use Rattle.function_blocks.specs.Fields.{field_count};
@@ -19,16 +19,15 @@ use tri_base::Touched;
 
 /// Pushes a constant.
 #[inline(always)]
-pub(crate) fn constant(value: i64, index: usize, places: &mut Places, depth: &mut usize) -> usize
+pub(crate) fn constant(value: i64, places: &mut Places, depth: &mut usize) -> Option<usize>
     requires operand { IsOperand value }
     requires room { depth.old < 1024 }
-    requires index { index < 2 ^ 63 }
     ensures value { waiting places.new depth.new ≡ value ∷ waiting places.old depth.old }
-    ensures next { result ≡ index + 1 }
+    ensures next { result ≡ None }
     ensures depth { depth.new ≡ depth.old + 1 }
 {
     push(places, depth, value);
-    index + 1
+    None
 }
 
 /// Pushes the word at an address.
@@ -36,20 +35,18 @@ pub(crate) fn constant(value: i64, index: usize, places: &mut Places, depth: &mu
 pub(crate) fn load(
     address: usize,
     kind: Kind,
-    index: usize,
     words: &[i64],
     places: &mut Places,
     depth: &mut usize,
-) -> usize
+) -> Option<usize>
     requires place { address < length words.now }
     requires room { depth.old < 1024 }
-    requires index { index < 2 ^ 63 }
     ensures value { waiting places.new depth.new ≡ read words.now address kind ∷ waiting places.old depth.old }
-    ensures next { result ≡ index + 1 }
+    ensures next { result ≡ None }
     ensures depth { depth.new ≡ depth.old + 1 }
 {
     push(places, depth, clamp_to(kind, words[address]));
-    index + 1
+    None
 }
 
 /// Pops an operand into the word at an address.
@@ -57,47 +54,46 @@ pub(crate) fn load(
 pub(crate) fn store(
     address: usize,
     kind: Kind,
-    index: usize,
     words: &mut [i64],
     touched: &mut Touched,
     places: &Places,
     depth: &mut usize,
-) -> usize
+) -> Option<usize>
     requires place { address < length words.old }
     requires size { length words.old ≤ touched.old.size }
     requires some { 0 < depth.old }
     requires held { depth.old ≤ 1024 }
-    requires index { index < 2 ^ 63 }
-    ensures value { (dt : ℤ) → (was : Bool)
-        → does dt (Instr.Store address kind) (here index places.now depth.old words.old was touched.old)
-        ≡ Some (here result places.now depth.new words.new was touched.new) }
+    ensures value { (dt : ℤ) → (index : ℕ) → (was : Bool)
+        → does dt (Instr.Store address kind)
+        (here index places.now depth.old words.old was touched.old)
+        ≡ Some (here (index + 1) places.now depth.new words.new was touched.new) }
+    ensures next { result ≡ None }
     ensures depth { depth.new + 1 ≡ depth.old }
     ensures size { touched.new.size ≡ touched.old.size }
 {
     let value = clamp_to(kind, pop(places, depth));
     put(words, touched, address, value);
-    index + 1
+    None
 }
 
 /// Does a LoadAt.
 #[inline(always)]
 pub(crate) fn load_element(
     instr: &Instr,
-    index: usize,
     words: &[i64],
     places: &mut Places,
     depth: &mut usize,
     flag: &mut bool,
-) -> usize
+) -> Option<usize>
     requires kind { IsLoadAt instr.now }
     requires words { HasWords (length words.now) instr.now }
     requires constants { HasConstants instr.now }
     requires some { 0 < depth.old }
     requires held { depth.old ≤ 1024 }
-    requires index { index < 2 ^ 63 }
-    ensures value { (dt : ℤ) → (t : TouchedValue)
+    ensures value { (dt : ℤ) → (index : ℕ) → (t : TouchedValue)
         → does dt instr.now (here index places.old depth.old words.now flag.old t)
-        ≡ Some (here result places.new depth.new words.now flag.new t) }
+        ≡ Some (here (index + 1) places.new depth.new words.now flag.new t) }
+    ensures next { result ≡ None }
     ensures depth { depth.new ≡ depth.old }
 {
     match *instr {
@@ -109,7 +105,7 @@ pub(crate) fn load_element(
         } => {
             let clamped = load_at(address, kind, low, high, words, places, depth);
             raise(flag, clamped);
-            index + 1
+            None
         }
         _ => unreachable!(),
     }
@@ -119,23 +115,22 @@ pub(crate) fn load_element(
 #[inline(always)]
 pub(crate) fn store_element(
     instr: &Instr,
-    index: usize,
     words: &mut [i64],
     touched: &mut Touched,
     places: &Places,
     depth: &mut usize,
     flag: &mut bool,
-) -> usize
+) -> Option<usize>
     requires kind { IsStoreAt instr.now }
     requires words { HasWords (length words.old) instr.now }
     requires constants { HasConstants instr.now }
     requires size { length words.old ≤ touched.old.size }
     requires some { 2 ≤ depth.old }
     requires held { depth.old ≤ 1024 }
-    requires index { index < 2 ^ 63 }
-    ensures value { (dt : ℤ)
+    ensures value { (dt : ℤ) → (index : ℕ)
         → does dt instr.now (here index places.now depth.old words.old flag.old touched.old)
-        ≡ Some (here result places.now depth.new words.new flag.new touched.new) }
+        ≡ Some (here (index + 1) places.now depth.new words.new flag.new touched.new) }
+    ensures next { result ≡ None }
     ensures depth { depth.new + 2 ≡ depth.old }
     ensures size { touched.new.size ≡ touched.old.size }
 {
@@ -148,7 +143,7 @@ pub(crate) fn store_element(
         } => {
             let clamped = store_at(address, kind, low, high, words, touched, places, depth);
             raise(flag, clamped);
-            index + 1
+            None
         }
         _ => unreachable!(),
     }
@@ -248,16 +243,14 @@ pub(crate) fn call(
     kind: BlockKind,
     address: usize,
     dt: i64,
-    index: usize,
     words: &mut [i64],
     touched: &mut Touched,
-) -> usize
+) -> Option<usize>
     requires place { address + field_count kind ≤ length words.old }
     requires from { pos 0 ≤ℤ dt }
     requires to { dt ≤ℤ pos 10_000 }
     requires size { length words.old ≤ touched.old.size }
-    requires index { index < 2 ^ 63 }
-    ensures next { result ≡ index + 1 }
+    ensures next { result ≡ None }
     ensures words { let fields = words_at words.old address (field_count kind) in
         words.new ≡ with_words words.old address (step_block kind dt fields) }
     ensures touched { let fields = words_at words.old address (field_count kind) in
@@ -266,7 +259,7 @@ pub(crate) fn call(
     let end = address + field_count(kind);
     note_all(&words[address..end], address, touched);
     step_block(kind, &mut words[address..end], dt);
-    index + 1
+    None
 }
 
 // Notes each of some words in a row, the lowest first.

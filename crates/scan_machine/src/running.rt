@@ -4,7 +4,7 @@ ghost use Rattle.scan_machine.specs.Machine.{Memory, Runs};
 
 use crate::counting::Steps;
 use crate::instructions::Instr;
-use crate::machine::step;
+use crate::machine::{landed, step};
 use crate::stack::Places;
 use crate::verified::Code;
 use std::sync::ledger::Ledger;
@@ -63,16 +63,17 @@ fn run_on<L: Ledger>(
     let mut index = 0;
     while index < code.len() {
         steps.tick();
-        index = step(
+        let behind = index + 1;
+        let jump = step(
             &code[index],
             dt,
-            index,
             words,
             touched,
             &mut places,
             &mut depth,
             &mut flag,
         );
+        index = landed(behind, jump);
     }
     flag
 }

@@ -1,6 +1,6 @@
 -- Nobody has to believe what stands here: it serves private functions alone.
 -- The operands that wait, as they stand at their places.
-use Rattle.std.specs.Prelude.{◌≡◌, ℕ, zero, suc, ℤ, pos, Bool, List, [], ◌∷◌, Some, length, slice_index_or}
+use Rattle.std.specs.Prelude.{◌≡◌, ℕ, zero, suc, ℤ, pos, Bool, List, [], ◌∷◌, Option, None, Some, length, slice_index_or}
 use Rattle.std.specs.List.{All}
 use Rattle.tri_base.specs.Noted.{TouchedValue}
 use Rattle.function_blocks.specs.Values.{IsOperand}
@@ -21,6 +21,11 @@ waiting places (suc n) = slice_index_or places n (pos 0) ∷ waiting places n
 abbrev pub here : ℕ → List ℤ → ℕ → List ℤ → Bool → TouchedValue → State
 here index places depth words flag touched =
     record { index = index; stack = waiting places depth; words = words; flag = flag; stores = touched.pairs }
+
+-- the instruction that comes next: the one behind, or the one that is jumped to
+abbrev pub landed : ℕ → Option ℕ → ℕ
+landed behind None = behind
+landed behind (Some target) = target
 
 -- an instruction that works on operands alone leaves such places, and says whether a number was clamped
 abbrev pub Operates : Instr → List ℤ → ℕ → List ℤ → ℕ → Bool → Type 0

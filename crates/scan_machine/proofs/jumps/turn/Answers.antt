@@ -26,7 +26,7 @@ put-requires-clause-place c =
     let n = c.in-Next in subst (HasWords (length c.args.words.now)) n.is c.requires.words n.address refl
 
 pub returns-then-is_past-clause-value : goal.returns-then-is_past-clause-value
-returns-then-is_past-clause-value c dt places depth was =
+returns-then-is_past-clause-value c dt index places depth was =
     let n = c.in-Next in let r = c.clamp_to.result in
     let consts : HasConstants (i.Next n.address n.kind n.step n.last n.back) = subst HasConstants n.is c.requires.constants in
     let small = within_dint n.kind n.step consts.0 in
@@ -36,13 +36,13 @@ returns-then-is_past-clause-value c dt places depth was =
     let e : to_z w64 (of_z w64 n.step) ≡ n.step = omega (arith, ints) in
     let f : to_z w64 (of_z w64 n.last) ≡ n.last = omega (arith, ints) in
     let g : to_z w64 (of_z w64 (to_z w64 (of_z w64 r) +ℤ to_z w64 (of_z w64 n.step))) ≡ r +ℤ n.step = omega (arith, ints, small.0, small.1, c.clamp_to.ensures.operand) in
-    let s : State = record { index = c.args.index; stack = waiting places depth; words = c.args.words.now; flag = was; stores = c.args.touched.now.pairs } in
+    let s : State = record { index = index; stack = waiting places depth; words = c.args.words.now; flag = was; stores = c.args.touched.now.pairs } in
     ap (λ (m : Instr). does dt m s) n.is
-    ∙ next_left dt c.args.index (waiting places depth) c.args.words.now was c.args.touched.now.pairs n.address n.kind n.step n.last n.back
+    ∙ next_left dt index (waiting places depth) c.args.words.now was c.args.touched.now.pairs n.address n.kind n.step n.last n.back
     c.is_past.result _ _ _ c.is_past.ensures e f (g ∙ ap (λ z. z +ℤ n.step) is) c.if-is_past.true
 
 pub returns-else-is_past-clause-value : goal.returns-else-is_past-clause-value
-returns-else-is_past-clause-value c dt places depth was =
+returns-else-is_past-clause-value c dt index places depth was =
     let n = c.in-Next in let r = c.clamp_to.result in let put = c.put in
     let consts : HasConstants (i.Next n.address n.kind n.step n.last n.back) = subst HasConstants n.is c.requires.constants in
     let small = within_dint n.kind n.step consts.0 in
@@ -52,8 +52,8 @@ returns-else-is_past-clause-value c dt places depth was =
     let e : to_z w64 (of_z w64 n.step) ≡ n.step = omega (arith, ints) in
     let f : to_z w64 (of_z w64 n.last) ≡ n.last = omega (arith, ints) in
     let g : to_z w64 (of_z w64 (to_z w64 (of_z w64 r) +ℤ to_z w64 (of_z w64 n.step))) ≡ r +ℤ n.step = omega (arith, ints, small.0, small.1, c.clamp_to.ensures.operand) in
-    let s : State = record { index = c.args.index; stack = waiting places depth; words = c.args.words.now; flag = was; stores = c.args.touched.now.pairs } in
+    let s : State = record { index = index; stack = waiting places depth; words = c.args.words.now; flag = was; stores = c.args.touched.now.pairs } in
     ap (λ (m : Instr). does dt m s) n.is
-    ∙ next_back dt c.args.index (waiting places depth) c.args.words.now was c.args.touched.now.pairs n.address n.kind n.step n.last n.back
+    ∙ next_back dt index (waiting places depth) c.args.words.now was c.args.touched.now.pairs n.address n.kind n.step n.last n.back
     c.is_past.result _ _ _ c.is_past.ensures e f (g ∙ ap (λ z. z +ℤ n.step) is)
     put.new.words put.new.touched.pairs c.if-is_past.false put.ensures.words (ap (λ (t : TouchedValue). t.pairs) put.ensures.touched)

@@ -1,10 +1,10 @@
-use Rattle.std.proofs.Common.{◌≡◌, ◌<◌, ◌≤◌, ◌+◌, ◌-◌, length, arith, ap, subst, refl, ◌∙◌}
+use Rattle.std.proofs.Common.{ℕ, ◌+◌, ◌-◌, Option, Some, length, arith, ap, sym, subst, refl, ◌∙◌}
 use Rattle.scan_machine.specs.declared.instructions.Instr.{Instr}
 use Rattle.function_blocks.specs.Fields.{field_count}
 use Rattle.scan_machine.specs.Rules.{HasWords}
 use Rattle.scan_machine.specs.Inner.Reaches.{reach}
 use Rattle.scan_machine.specs.Machine.{does}
-use Rattle.scan_machine.specs.Inner.Waiting.{here}
+use Rattle.scan_machine.specs.Inner.Waiting.{here, landed}
 use Rattle.scan_machine.proofs.Reaches.{reach_there}
 use Rattle.scan_machine.proofs.Calling.{fields_some}
 use Rattle.scan_machine.proofs.machine.step.Goals as goal
@@ -25,12 +25,15 @@ call-requires-clause-place c =
     omega (arith, h, some)
 
 pub returns-in-Store-clause-value : goal.returns-in-Store-clause-value
-returns-in-Store-clause-value c =
-    let s = here c.args.index c.args.places.now c.args.depth.now c.args.words.now c.args.flag.now c.args.touched.now in
-    ap (λ (m : Instr). does c.args.dt m s) c.in-Store.is ∙ c.store.ensures.value c.args.dt c.args.flag.now
+returns-in-Store-clause-value c index =
+    let s = here index c.args.places.now c.args.depth.now c.args.words.now c.args.flag.now c.args.touched.now in
+    ap (λ (m : Instr). does c.args.dt m s) c.in-Store.is
+    ∙ (c.store.ensures.value c.args.dt index c.args.flag.now
+    ∙ ap (λ (r : Option ℕ). Some (here (landed (index + 1) r) c.args.places.now c.store.new.depth c.store.new.words c.args.flag.now c.store.new.touched))
+    (sym c.store.ensures.next))
 
 pub returns-in-JumpFalse-clause-value : goal.returns-in-JumpFalse-clause-value
-returns-in-JumpFalse-clause-value c =
-    let s = here c.args.index c.args.places.now c.args.depth.now c.args.words.now c.args.flag.now c.args.touched.now in
+returns-in-JumpFalse-clause-value c index =
+    let s = here index c.args.places.now c.args.depth.now c.args.words.now c.args.flag.now c.args.touched.now in
     ap (λ (m : Instr). does c.args.dt m s) c.in-JumpFalse.is
-    ∙ c.jump_false.ensures.value c.args.dt c.args.words.now c.args.flag.now c.args.touched.now
+    ∙ c.jump_false.ensures.value c.args.dt index c.args.words.now c.args.flag.now c.args.touched.now

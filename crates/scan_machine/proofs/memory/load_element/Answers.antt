@@ -1,15 +1,9 @@
-use Rattle.std.proofs.Common.{◌≡◌, ℕ, ◌<◌, ◌+◌, ◌-◌, pos, ◌-ℤ◌, [], length, to_z, of_z, w64, arith, rules, ap, sym, subst, ◌∙◌}
+use Rattle.std.proofs.Common.{◌≡◌, ◌<◌, ◌+◌, ◌-ℤ◌, length, to_z, of_z, w64, arith, ap, sym, subst}
 use Rattle.std.proofs.lemmas.Int.{ints}
 use Rattle.std.specs.Prelude.{unsigned_abs}
-use Rattle.scan_machine.specs.declared.instructions.Instr.{Instr}
-use Rattle.function_blocks.specs.Fields.{field_count}
 use Rattle.scan_machine.specs.Rules.{AreBounds, HasConstants}
 use Rattle.scan_machine.specs.Inner.Reaches.{reach}
-use Rattle.scan_machine.specs.Machine.{State, does}
-use Rattle.scan_machine.specs.Inner.Waiting.{waiting}
 use Rattle.scan_machine.proofs.Reaches.{array_there}
-use Rattle.scan_machine.proofs.Calling.{fields_some}
-use Rattle.scan_machine.proofs.Turning.{stored_element}
 use Rattle.scan_machine.proofs.memory.load_element.Goals as goal
 
 pub load_at-clamped-requires-clause-place : goal.load_at-clamped-requires-clause-place

@@ -1,4 +1,4 @@
-use Rattle.std.proofs.Common.{◌*ℤ◌, ◌∷◌}
+use Rattle.std.proofs.Common.{◌*ℤ◌}
 use Rattle.scan_machine.specs.declared.instructions.Instr.TheVariants as i
 use Rattle.scan_machine.specs.Inner.Waiting.{waiting}
 use Rattle.scan_machine.proofs.Doing.{exact_on_top, two_computed}
