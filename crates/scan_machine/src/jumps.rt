@@ -1,4 +1,4 @@
-// The instructions that may go elsewhere than to the next place. Each answers the place, if it goes.
+// The instructions that may go elsewhere than to the next place. Each answers where, if it does.
 
 ghost use Rattle.std.specs.Prelude.{ℕ, ℤ, Bool, List, ◌≡◌, ◌<◌, ◌≤◌, ◌+◌, ◌^◌, Some, length};
 ghost use Rattle.scan_machine.specs.Rules.{HasWords, HasConstants};
