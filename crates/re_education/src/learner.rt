@@ -71,12 +71,14 @@ impl Learner {
         self.header = NOTHING;
     }
 
-    /// Keeps room for a memory of so many words in all, text and words together.
+    /// Keeps room for a memory of so many words in all, text and words together. It takes memory only
+    /// where there is less room.
     pub fn reserve(&mut self, room: usize) -> Result<(), NoMemory>
         ensures ok { OnOk result (room ≤ self.new.room) }
         ensures kept { self.old.room ≤ self.new.room }
         ensures lesson { self.new.lesson ≡ self.old.lesson }
         ensures err { OnErr result (self.new ≡ self.old) }
+        ensures serves { room ≤ self.old.room → IsOk result }
     {
         grow(&mut self.image, &mut self.room, room)
     }
