@@ -42,7 +42,7 @@ pub both_contents : (a b : List (List ℕ)) → AreContents a → AreContents b 
 both_contents [] b h k = k
 both_contents (line ∷ a) b h k = (h.0, h.1, both_contents a b h.2 k)
 
-no_end : (line : List ℕ) → list_all no_return line ≡ true → content_of line ≡ line
+pub no_end : (line : List ℕ) → list_all no_return line ≡ true → content_of line ≡ line
 no_end [] h = refl
 no_end (b ∷ line) h = by (b == 13) refl (both (no_return b) (list_all no_return line) h).0 (no_end line (both (no_return b) (list_all no_return line) h).1)
   where

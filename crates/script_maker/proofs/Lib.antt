@@ -1,0 +1,4 @@
+pub mod Rows
+pub mod Plants
+pub mod Programs
+pub mod Scripts

@@ -1,0 +1,4 @@
+pub mod Plants
+pub mod Programs
+pub mod Generated
+pub mod Inner

@@ -1,0 +1,14 @@
+//! Scripts of any length that use all that a controller can hold, made from a number.
+#![tactic(auto)]
+
+mod draw;
+mod laws;
+mod moments;
+mod plant;
+mod program;
+mod script;
+#[cfg(test)]
+mod tests;
+
+pub use laws::generated_is_script;
+pub use script::make_script;
