@@ -1,5 +1,5 @@
 -- The points of the generator are such as a script may have, and each input stands at its place.
-use Rattle.std.proofs.Common.{◌≡◌, ℕ, ℤ, zero, suc, pos, ◌+◌, ◌<◌, Bool, true, false, List, [], ◌∷◌, ◌++◌, map, length, get_or, is_none, Option, Some, None, slice_get, codes, refl, sym, ap, ◌∙◌, subst, arith, append_assoc, ◌&&◌, ◌==◌}
+use Rattle.std.proofs.Common.{◌≡◌, ℕ, ℤ, zero, suc, pos, ◌+◌, ◌<◌, Bool, true, false, List, [], ◌∷◌, ◌++◌, map, length, get_or, is_none, Option, Some, None, slice_get, codes, refl, sym, ap, ◌∙◌, arith, append_assoc, ◌&&◌, ◌==◌}
 use Rattle.std.specs.List.{list_all, range_with_len}
 use Rattle.std.specs.Str.{bytes_eq}
 use Rattle.std.specs.Fmt.{digits}

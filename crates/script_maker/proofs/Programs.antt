@@ -4,7 +4,7 @@ use Rattle.std.specs.List.{list_all, range_with_len}
 use Rattle.std.specs.Str.{bytes_eq}
 use Rattle.std.specs.Fmt.{digits}
 use Rattle.std.proofs.lemmas.List.Folds.{flat_map-map}
-use Rattle.script_lines.specs.Lines.{content_of, ended}
+use Rattle.script_lines.specs.Lines.{ended}
 use Rattle.script_text.specs.IsScript.{AreBlockLines, IsBlock, is_byte}
 use Rattle.script_text.proofs.LineFacts.{both, no_feed}
 use Rattle.script_writer.proofs.RoundLines.{all_weaker, no_end, no_return}

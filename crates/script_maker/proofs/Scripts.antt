@@ -1,13 +1,12 @@
 -- The scans of the generator are such as a script may have, so what is made is a script.
-use Rattle.std.proofs.Common.{◌≡◌, ℕ, ℤ, zero, suc, pos, ◌+◌, ◌*◌, ◌/◌, ◌%◌, ◌==◌, ◌<◌, ◌≤◌, Bool, true, false, List, [], ◌∷◌, ◌++◌, map, refl, sym, ap, ◌∙◌, subst, arith}
+use Rattle.std.proofs.Common.{◌≡◌, ℕ, zero, suc, pos, ◌+◌, ◌*◌, ◌/◌, ◌%◌, ◌==◌, ◌<◌, ◌≤◌, Bool, true, false, List, [], ◌∷◌, ◌++◌, map, refl, sym, ap, ◌∙◌, subst, arith}
 use Rattle.std.specs.Bool.{if◌then◌else◌}
 use Rattle.std.specs.List.{range_with_len}
 use Rattle.std.proofs.lemmas.List.FromFn.{map-range_with_len_more}
 use Rattle.tri_base.specs.Limits.{scan_limit}
 use Rattle.tri_base.specs.declared.leg.Leg.{Leg}
 use Rattle.tri_base.specs.declared.point.Point.{Point}
-use Rattle.script_text.specs.declared.moment.ScanLine.{ScanLine}
-use Rattle.script_text.specs.declared.moment.ScanLine.TheVariants.{Set, Replace, Download}
+use Rattle.script_text.specs.declared.moment.ScanLine.TheVariants.{Replace, Download}
 use Rattle.script_text.specs.MomentValue.{MomentValue}
 use Rattle.script_text.specs.ScriptValue.{script_value}
 use Rattle.script_text.specs.Standing.{all_within}
@@ -15,8 +14,8 @@ use Rattle.script_text.specs.IsScript.{IsShort, IsShortTriple, IsSetting, AreLin
 use Rattle.script_text.proofs.Reaches.{setting_is}
 use Rattle.script_maker.specs.Plants.{row_length, generated_points}
 use Rattle.script_maker.specs.Programs.{generated_text}
-use Rattle.script_maker.specs.Generated.{next_draw, draw, all_legs, discrete_line, analogue_line, leg_in_turn, event_lines, moment_of, generated_moment, generated}
-use Rattle.script_maker.proofs.Plants.{plant, discrete_point, analogue_point, StandsAt, discrete_stands, analogue_stands}
+use Rattle.script_maker.specs.Generated.{next_draw, draw, all_legs, leg_in_turn, event_lines, moment_of, generated_moment, generated}
+use Rattle.script_maker.proofs.Plants.{plant, discrete_point, analogue_point, discrete_stands, analogue_stands}
 use Rattle.script_maker.proofs.Programs.{block}
 
 -- ---- draws

@@ -45,7 +45,8 @@ event_lines scan =
 -- A scan with its two draws.
 abbrev pub moment_of : (scan first second : ℕ) → MomentValue
 moment_of scan first second =
-    record { scan = scan; lines = discrete_line first ∷ analogue_line second ∷ event_lines scan; renames = []; asks = [] }
+    let lines = discrete_line first ∷ analogue_line second ∷ event_lines scan in
+    record { scan = scan; lines = lines; renames = []; asks = [] }
 
 -- The scan behind `before` others has the next two draws.
 abbrev pub generated_moment : (number before : ℕ) → MomentValue

@@ -33,7 +33,8 @@ fn add_row(
 ) -> Result<(), NoMemory>
     requires { (i : ℕ) → i < row_length → name_of (numbered letter.now i) ≡
         Some (numbered letter.now i) }
-    ensures { OnOk result (chassis.new ≡ chassis.old ++ row_of kind letter.now (pos high) (pos tolerance)) }
+    ensures { OnOk result (chassis.new ≡ chassis.old ++
+        row_of kind letter.now (pos high) (pos tolerance)) }
 {
     for number in 0..ROW_LENGTH {
         let name = make_name(alloc, letter, number)?;

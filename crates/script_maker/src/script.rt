@@ -13,7 +13,7 @@ use tri_base::NoMemory;
 // The line of the word TEXT, behind the heading and 512 points.
 const TEXT_LINE: u32 = 514;
 
-/// A script of 1 to 2,000 scans with 512 points and a program of 16,384 bytes, in which the draws of
+/// A script of 1 to 2,000 scans with 512 points and a program of 16,384 bytes, in which draws from
 /// a number of 32 bits decide what the inputs read.
 pub fn make_script(alloc: Global, number: u32, scans: u32) -> Result<Script, NoMemory>
     requires { (1 ≤ scans) × (scans ≤ scan_limit) }

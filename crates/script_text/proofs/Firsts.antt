@@ -1,11 +1,11 @@
 -- What is read is a script, and a fault is the first one.
-use Rattle.std.proofs.Common.{◌≡◌, ℕ, zero, suc, ◌+◌, ◌<◌, ◌≤◌, Bool, true, false, List, [], ◌∷◌, ◌++◌, length, map, fold, take, get_or, Option, Some, None, Result, Ok, Err, refl, sym, ap, ◌∙◌, subst, append_assoc, append-nil, length-append, arith, inl, inr, codes}
+use Rattle.std.proofs.Common.{◌≡◌, ℕ, ◌+◌, ◌<◌, List, [], ◌∷◌, ◌++◌, length, map, fold, take, get_or, Option, Some, None, Result, Ok, Err, refl, sym, ap, ◌∙◌, subst, append_assoc, append-nil, length-append, arith, inl, inr, codes}
 use Rattle.std.proofs.lemmas.List.Sums.{fold-append}
 use Rattle.std.proofs.Math.Seq.{take-append_seam, get_or-append_seam}
 use Rattle.std.proofs.lemmas.List.{take_more}
 use Rattle.script_text.specs.declared.fault.ScriptCause.{ScriptCause}
 use Rattle.script_text.specs.declared.fault.ScriptCause.TheVariants.{End}
-use Rattle.script_text.specs.declared.fault.ScriptFault.TheVariants.{At, NoMemory}
+use Rattle.script_text.specs.declared.fault.ScriptFault.TheVariants.{At}
 use Rattle.script_lines.specs.declared.keyword.Part.{Part}
 use Rattle.script_lines.specs.declared.keyword.Part.TheVariants.{Nothing, Heading, Plant, Program, Order, Count, Moment, Inside, Ended}
 use Rattle.script_text.specs.declared.moment.Opener.{Opener}
@@ -15,7 +15,7 @@ use Rattle.script_text.specs.Standing.{Standing, beginning, after, closed}
 use Rattle.script_text.specs.declared.fault.LineFault.{LineFault}
 use Rattle.script_text.specs.declared.fault.LineFault.TheVariants.{Cause, NoMemory as NoRoom}
 use Rattle.script_text.specs.Inner.Steps.{Steps, fault_at, finished}
-use Rattle.script_text.specs.Spells.{contents_of, goes_on, come_to, script_in, Spells, Begins, IsFirstFault, EndsEarly, IsFault, IsReading}
+use Rattle.script_text.specs.Spells.{contents_of, goes_on, come_to, script_in, Begins, IsFirstFault, IsReading}
 
 -- ---- what lines come to, in two pieces
 

@@ -1,11 +1,10 @@
 -- What a script's lines set fits the rows of a tape.
-use Rattle.std.proofs.Common.{◌≡◌, ℕ, ℤ, zero, suc, pos, negsuc, ◌+◌, ◌<◌, ◌≤◌, ◌≤ℤ◌, int_le, Bool, true, false, List, [], ◌∷◌, length, take, get_or, ◌&&◌, ◌||◌, Option, Some, None, refl, sym, ap, ◌∙◌, subst, arith, slice_get}
+use Rattle.std.proofs.Common.{◌≡◌, ℕ, ℤ, zero, suc, pos, ◌<◌, int_le, Bool, true, false, List, [], ◌∷◌, length, take, ◌&&◌, ◌||◌, Some, sym, ap, ◌∙◌, subst, arith, slice_get}
 use Rattle.std.specs.Bool.{if◌then◌else◌}
 use Rattle.std.specs.List.{All}
 use Rattle.std.proofs.lemmas.Bool.Decides.{nat_tests}
 use Rattle.std.proofs.lemmas.Int.{ints}
 use Rattle.std.proofs.lemmas.Option.{get_or_from_slice_get}
-use Rattle.tri_base.specs.declared.leg.Triple.{Triple}
 use Rattle.tri_base.specs.declared.point.Point.{Point}
 use Rattle.tri_base.specs.declared.point.PointKind.{PointKind}
 use Rattle.tri_base.specs.declared.point.PointKind.TheVariants.{Di, Ai, Do, Ao}
@@ -16,7 +15,6 @@ use Rattle.script_text.specs.declared.moment.ScanLine.TheVariants.{Set, Time, Do
 use Rattle.script_text.specs.declared.moment.Setting.{Setting}
 use Rattle.script_text.specs.IsScript.{IsSetting, is_download, AreLines, AreMoments}
 use Rattle.script_text.specs.MomentValue.{MomentValue}
-use Rattle.script_text.specs.Standing.{all_within}
 use Rattle.script_text.specs.LegScans.{input_place}
 use Rattle.script_text.specs.Inner.LegParts.{places_from, HasBits, SetFits, AllFit, MomentsFit}
 use Rattle.script_text.proofs.LineFacts.{both}

@@ -1,5 +1,5 @@
 -- What lines come to, where they come to a script, is what holds of every script: line by line.
-use Rattle.std.proofs.Common.{◌≡◌, ℕ, ℤ, zero, suc, pos, negsuc, ◌+◌, ◌<◌, ◌≤◌, Bool, true, false, not, List, [], ◌∷◌, ◌++◌, fold, length, nat_le, ◌==◌, ◌&&◌, ◌||◌, Option, Some, None, option_map, Result, Ok, Err, refl, sym, ap, ◌∙◌, subst, arith, slice_get, codes}
+use Rattle.std.proofs.Common.{◌≡◌, ℕ, ℤ, pos, negsuc, ◌+◌, ◌≤◌, Bool, true, false, List, [], ◌∷◌, ◌++◌, fold, length, nat_le, ◌&&◌, ◌||◌, Option, Some, None, option_map, Result, Ok, Err, refl, sym, ap, ◌∙◌, subst, arith, slice_get, codes}
 use Rattle.std.specs.Bool.{if◌then◌else◌}
 use Rattle.std.specs.Option.{option_and_then}
 use Rattle.std.specs.List.{list_all}
@@ -11,19 +11,18 @@ use Rattle.tri_base.specs.declared.leg.Leg.{Leg}
 use Rattle.tri_base.specs.declared.leg.Side.{Side}
 use Rattle.tri_base.specs.declared.leg.Triple.{Triple}
 use Rattle.tri_base.specs.declared.point.Point.{Point}
-use Rattle.tri_base.specs.declared.point.PointKind.{PointKind}
-use Rattle.tri_base.specs.declared.point.PointKind.TheVariants.{Di, Ai, Do, Ao}
+use Rattle.tri_base.specs.declared.point.PointKind.TheVariants.{Di, Do}
 use Rattle.chassis.specs.declared.points.ChassisFault.{ChassisFault}
 use Rattle.chassis.specs.Points.{refusal_of, place_of, is_input_kind}
 use Rattle.script_lines.specs.declared.keyword.Keyword.{Keyword}
 use Rattle.script_lines.specs.declared.keyword.Keyword.TheVariants.{Tricon, Point as PointWord, Text as TextWord, Schedule as ScheduleWord, Scans as ScansWord, At as AtWord, Set as SetWord, Time as TimeWord, Download as DownloadWord, Mute as MuteWord, Poke as PokeWord, Replace as ReplaceWord, Swap as SwapWord, Read as ReadWord, Result as ResultWord, Drive as DriveWord, Rename as RenameWord, Ask as AskWord, End as EndWord}
 use Rattle.script_lines.specs.declared.keyword.Part.{Part}
-use Rattle.script_lines.specs.declared.keyword.Part.TheVariants.{Nothing, Heading as HeadingPart, Plant, Program as ProgramPart, Order as OrderPart, Count, Moment as MomentPart, Inside, Ended}
+use Rattle.script_lines.specs.declared.keyword.Part.TheVariants.{Heading as HeadingPart, Plant, Program as ProgramPart, Order as OrderPart, Count, Moment as MomentPart, Inside, Ended}
 use Rattle.script_lines.specs.declared.statement.Statement.{Statement}
 use Rattle.script_lines.specs.declared.statement.Statement.TheVariants.{Heading, Point as PointLine, Text, Schedule, Scans, At, Set, Time, Download, Mute, Poke, Replace, Swap, Read, Result as ResultLine, Drive, Rename, Ask, End}
 use Rattle.script_lines.specs.Lines.{content_of, ended}
 use Rattle.script_lines.specs.Order.{keyword_of, part_of, may_follow}
-use Rattle.script_lines.specs.Statements.{statement_of, begins_comment, numbers_of, triple, point, discrete, discrete_point, analogue_input, input_point, analogue_output, output_point, setting, single_number, heading, alone, reading_of, result_of, drive_of, sided_of, sided_leg, sided, leg_of, side_of, single_leg, poke, rename, schedule_of, legs_of, ask, hex_bytes}
+use Rattle.script_lines.specs.Statements.{statement_of, begins_comment, numbers_of, triple, point, discrete, discrete_point, analogue_input, input_point, analogue_output, output_point, single_number, sided_of, sided_leg, sided, leg_of, side_of, single_leg, legs_of, hex_bytes}
 use Rattle.script_lines.specs.Words.{words_of}
 use Rattle.script_text.specs.declared.fault.ScriptCause.{ScriptCause}
 use Rattle.script_text.specs.declared.fault.ScriptCause.TheVariants.{Word, Range, Second, Point as PointCause}
@@ -32,8 +31,7 @@ use Rattle.script_text.specs.declared.moment.Opener.TheVariants.{Program, Downlo
 use Rattle.script_text.specs.declared.moment.ScanLine.{ScanLine}
 use Rattle.script_text.specs.declared.moment.ScanLine.TheVariants.{Set as SetLine, Time as TimeLine, Download as DownloadLine, Mute as MuteLine, Poke as PokeLine, Replace as ReplaceLine, Swap as SwapLine, Read as ReadLine, Result as ResultWords, Drive as DriveLine}
 use Rattle.script_text.specs.MomentValue.{MomentValue}
-use Rattle.script_text.specs.ScriptValue.{ScriptValue}
-use Rattle.script_text.specs.Standing.{Standing, beginning, address_limit, with_last, with_line, with_rename, with_ask, inside, line_added, opening, count_within, all_within, new_moment, is_time, pointed, scans_to, at_scan, set_input, set_point, timed, poked, download, stated, shaped, is_prepared, may_stand, worded, outside, closed, blocked, placed, numbered, after}
+use Rattle.script_text.specs.Standing.{Standing, beginning, address_limit, with_last, with_line, with_rename, with_ask, inside, line_added, opening, count_within, all_within, new_moment, is_time, pointed, scans_to, at_scan, set_input, set_point, timed, poked, download, stated, shaped, is_prepared, may_stand, worded, outside, closed, blocked, placed, numbered}
 use Rattle.script_text.specs.Spells.{goes_on, come_to, contents_of, script_in}
 use Rattle.script_text.specs.IsScript.{is_byte, IsShort, AllShort, IsShortTriple, Writable, IsPlant, IsBlock, IsLine, is_download, downloads, IsRequest, IsMoment, AreMoments, IsScript}
 use Rattle.script_text.proofs.LineFacts.{both, no_feed, AreContents, contents_are, all_bytes, contents_bytes}

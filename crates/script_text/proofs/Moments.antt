@@ -1,5 +1,5 @@
 -- The last of some moments is written over.
-use Rattle.std.proofs.Common.{◌≡◌, ℕ, zero, suc, List, [], ◌∷◌, length, refl, ap, arith, get_or, set}
+use Rattle.std.proofs.Common.{◌≡◌, ℕ, zero, suc, List, [], ◌∷◌, length, ap, arith, get_or, set}
 use Rattle.script_text.specs.MomentValue.{MomentValue}
 use Rattle.script_text.specs.Standing.{with_last}
 

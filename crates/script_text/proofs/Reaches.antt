@@ -1,7 +1,7 @@
 -- What is read keeps what holds of every script: numbers, names, points, blocks and the lines of a scan, with one more.
-use Rattle.std.proofs.Common.{◌≡◌, ℕ, ℤ, zero, suc, pos, negsuc, neg_ℤ, ◌+◌, ◌*◌, ◌<◌, ◌≤◌, ◌^◌, Bool, true, false, not, List, [], ◌∷◌, ◌++◌, fold, length, flat_map, nat_le, nat_lt, ◌==◌, ◌&&◌, ◌||◌, Option, Some, None, option_map, refl, sym, ap, ◌∙◌, subst, arith, slice_get, get_or, codes, append_assoc, append-nil, map}
+use Rattle.std.proofs.Common.{◌≡◌, ℕ, ℤ, zero, suc, pos, neg_ℤ, ◌+◌, ◌*◌, ◌<◌, ◌≤◌, ◌^◌, Bool, true, false, List, [], ◌∷◌, ◌++◌, length, flat_map, nat_lt, ◌==◌, ◌&&◌, ◌||◌, Option, Some, None, option_map, refl, sym, ap, ◌∙◌, subst, arith, slice_get, get_or, codes, append_assoc, append-nil, map}
 use Rattle.std.specs.Bool.{if◌then◌else◌}
-use Rattle.std.specs.List.{list_all, position}
+use Rattle.std.specs.List.{list_all}
 use Rattle.std.specs.Option.{option_and_then}
 use Rattle.std.specs.Str.{bytes_eq}
 use Rattle.std.specs.Str.Parse.{digits_value}
@@ -18,13 +18,12 @@ use Rattle.tri_base.specs.Names.{name_of, is_name}
 use Rattle.tri_base.specs.declared.leg.Triple.{Triple}
 use Rattle.tri_base.specs.declared.point.Point.{Point}
 use Rattle.chassis.specs.Points.{refusal_of, place_of, is_input_kind}
-use Rattle.script_lines.specs.Lines.{content_of, ended}
+use Rattle.script_lines.specs.Lines.{ended}
 use Rattle.script_lines.specs.Statements.{numbers_of, triple, hex_digit, hex_byte, hex_bytes}
 use Rattle.script_text.specs.declared.moment.ScanLine.{ScanLine}
 use Rattle.script_text.specs.MomentValue.{MomentValue}
 use Rattle.script_text.specs.Standing.{with_last, with_line, new_moment, all_within}
 use Rattle.script_text.specs.IsScript.{is_byte, IsShort, AllShort, IsShortTriple, Writable, IsPlant, AreBlockLines, IsBlock, IsSetting, IsLine, is_download, downloads, AreLines, AreRenames, HaveDownload, IsRequest, AreRequests, IsMoment, AreMoments}
-use Rattle.script_text.proofs.LineFacts.{both, no_feed}
 
 -- ---- what an option gives, where it gives anything
 

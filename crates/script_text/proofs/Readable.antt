@@ -1,7 +1,7 @@
 -- A leg can read each scan of a tape.
-use Rattle.std.proofs.Common.{◌≡◌, ℕ, ℤ, zero, suc, pos, negsuc, ◌+◌, ◌<◌, ◌≤◌, ◌≤ℤ◌, int_le, Bool, true, false, List, [], ◌∷◌, ◌++◌, length, map, fold, take, get_or, set, ◌&&◌, ◌||◌, Option, Some, None, refl, sym, ap, ◌∙◌, subst, arith, slice_get}
+use Rattle.std.proofs.Common.{◌≡◌, ℕ, ℤ, zero, suc, pos, ◌<◌, ◌≤ℤ◌, int_le, Bool, true, false, List, [], ◌∷◌, ◌++◌, length, map, fold, take, set, ◌&&◌, ◌||◌, Option, Some, None, refl, sym, ap, ◌∙◌, subst, arith, slice_get}
 use Rattle.std.specs.Bool.{if◌then◌else◌}
-use Rattle.std.specs.List.{All, AllZip, range_with_len}
+use Rattle.std.specs.List.{All, AllZip}
 use Rattle.std.proofs.lemmas.Bool.Decides.{nat_tests}
 use Rattle.std.proofs.lemmas.Int.{ints}
 use Rattle.std.proofs.lemmas.List.Elements.{All-push}
@@ -18,13 +18,11 @@ use Rattle.chassis.specs.Ranges.{Fits, IsWithin, is_within}
 use Rattle.chassis.proofs.Ranges.{zero_held}
 use Rattle.script_text.specs.declared.moment.ScanLine.{ScanLine}
 use Rattle.script_text.specs.declared.moment.ScanLine.TheVariants.{Set, Time, Download, Mute, Poke, Replace, Swap, Read, Result, Drive}
-use Rattle.script_text.specs.declared.moment.Setting.{Setting}
-use Rattle.script_text.specs.IsScript.{IsSetting, IsLine, is_download, AreLines, AreMoments, IsScript}
-use Rattle.script_text.specs.MomentValue.{MomentValue}
+use Rattle.script_text.specs.IsScript.{IsLine, is_download, AreLines, IsScript}
 use Rattle.script_text.specs.Moments.{moment_at}
 use Rattle.script_text.specs.ScriptValue.{ScriptValue}
 use Rattle.script_text.specs.Standing.{all_within, is_time}
-use Rattle.script_text.specs.LegScans.{LegAct, Poke as PokeAct, Replace as ReplaceAct, Swap as SwapAct, LegScan, SwapsBytes, LoadsBytes, IsReadable, reading_only, unread, input_place, same_leg, for_leg, with_shown, with_result, with_leg_line, next_scan, scan_of, tape_of}
+use Rattle.script_text.specs.LegScans.{LegAct, Poke as PokeAct, Replace as ReplaceAct, Swap as SwapAct, LegScan, SwapsBytes, LoadsBytes, IsReadable, reading_only, input_place, same_leg, for_leg, with_shown, with_result, with_leg_line, scan_of, tape_of}
 use Rattle.script_text.proofs.LineFacts.{both, bytes_all}
 use Rattle.script_text.proofs.Tapes.{lines_there}
 

@@ -1,27 +1,26 @@
 -- A tape is what the leg sees of each scan.
-use Rattle.std.proofs.Common.{◌≡◌, ℕ, ℤ, zero, suc, pos, negsuc, ◌+◌, ◌-◌, ◌<◌, ◌≤◌, ◌≤ℤ◌, Bool, true, false, not, List, [], ◌∷◌, ◌++◌, length, map, fold, take, get_or, set, flat_map, filter, nat_le, ◌==◌, ◌&&◌, ◌||◌, Option, Some, None, option_map, refl, sym, ap, ◌∙◌, subst, arith, slice_get}
+use Rattle.std.proofs.Common.{◌≡◌, ℕ, ℤ, zero, suc, pos, ◌+◌, ◌-◌, ◌<◌, ◌≤◌, Bool, true, false, List, [], ◌∷◌, ◌++◌, length, map, fold, take, get_or, set, nat_le, ◌==◌, ◌||◌, Option, Some, None, option_map, refl, sym, ap, ◌∙◌, subst, arith, slice_get}
 use Rattle.std.specs.Bool.{if◌then◌else◌}
-use Rattle.std.specs.List.{All, range_with_len}
+use Rattle.std.specs.List.{range_with_len}
 use Rattle.std.specs.List.Sorted.{IsNonDecreasingBy, IsPartitionPoint}
 use Rattle.std.proofs.lemmas.Bool.{eqb-true, eq-eqb, ne_eqb, le-leb, leb-true, leb-false}
 use Rattle.std.proofs.lemmas.List.FromFn.{get_or-map-range_with_len, length-map-range_with_len}
 use Rattle.tri_base.specs.Downloads.{Download}
 use Rattle.tri_base.specs.Legs.{leg_part}
 use Rattle.tri_base.specs.declared.leg.Leg.{Leg}
-use Rattle.tri_base.specs.declared.leg.Triple.{Triple}
 use Rattle.tri_base.specs.declared.leg.Side.{Side}
 use Rattle.tri_base.specs.declared.leg.Side.TheVariants.{Left, Right}
 use Rattle.tri_base.specs.declared.point.Point.{Point}
 use Rattle.chassis.specs.Points.{inputs_of, is_input_kind}
 use Rattle.script_text.specs.declared.moment.ScanLine.{ScanLine}
 use Rattle.script_text.specs.declared.moment.ScanLine.TheVariants.{Set, Time, Download as DownloadLine, Mute, Poke as PokeLine, Replace as ReplaceLine, Swap as SwapLine, Read, Result, Drive}
-use Rattle.script_text.specs.IsScript.{IsSetting, IsLine, is_download, AreLines, IsMoment, AreMoments, IsScript}
+use Rattle.script_text.specs.IsScript.{IsLine, is_download, AreLines, AreMoments, IsScript}
 use Rattle.script_text.specs.MomentValue.{MomentValue}
 use Rattle.script_text.specs.Moments.{moment_at}
 use Rattle.script_text.specs.ScriptValue.{ScriptValue}
 use Rattle.script_text.specs.Standing.{new_moment}
-use Rattle.script_text.specs.LegScans.{LegScan, first_time, reading_only, no_lines, unread, input_place, same_leg, for_leg, with_shown, with_result, with_leg_line, next_scan, scan_of, tape_of, TapeValue, scan_at, shown_on, result_on, renames_of}
-use Rattle.script_text.specs.Inner.LegParts.{Rise, RowValue, places_from, with_reading, next_row, rows_from, row_until, RowsSorted, RowsCount, LinesCount, LegLinesValue, nothing_said, lines_shown, lines_result, shown_by, result_by, renames_with, said_to, names_leg, with_said, lines_for, some_line, said_in, all_said, lines_until, of_scan, lines_on, LinesSorted, download_of, joined, scan_kept, scans_kept}
+use Rattle.script_text.specs.LegScans.{LegScan, first_time, reading_only, no_lines, input_place, same_leg, for_leg, with_shown, with_result, with_leg_line, next_scan, scan_of, tape_of, TapeValue, scan_at, shown_on, result_on, renames_of}
+use Rattle.script_text.specs.Inner.LegParts.{Rise, RowValue, places_from, with_reading, next_row, rows_from, row_until, RowsSorted, RowsCount, LinesCount, LegLinesValue, nothing_said, lines_shown, lines_result, shown_by, result_by, renames_with, said_to, names_leg, with_said, lines_for, some_line, all_said, lines_until, of_scan, lines_on, LinesSorted, download_of, joined, scan_kept, scans_kept}
 
 -- ---- the last item up to a scan
 

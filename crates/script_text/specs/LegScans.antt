@@ -1,5 +1,5 @@
 -- What one leg sees of a script, scan by scan (own rules).
-use Rattle.std.specs.Prelude.{ℕ, ℤ, pos, ◌<◌, ◌≤ℤ◌, zero, suc, ◌+◌, ◌-◌, ◌==◌, Bool, true, false, List, [], ◌∷◌, ◌++◌, length, map, fold, take, slice_set, slice_index_or, Option, Some, None, if◌then◌else◌}
+use Rattle.std.specs.Prelude.{ℕ, ℤ, pos, ◌<◌, ◌≤ℤ◌, zero, suc, ◌-◌, Bool, true, false, List, [], ◌∷◌, ◌++◌, length, map, fold, take, slice_set, slice_index_or, Option, Some, None}
 use Rattle.std.specs.List.{All, AllZip, range_with_len}
 use Rattle.tri_base.specs.Downloads.{Download}
 use Rattle.tri_base.specs.Legs.{leg_part}

@@ -1,4 +1,4 @@
--- The lines of a scan in a script.
+-- The lines of a scan in a script (own rules).
 use Rattle.std.specs.Prelude.{ℕ, ◌==◌, List, [], ◌∷◌, Option, Some, None, if◌then◌else◌}
 use Rattle.script_text.specs.declared.moment.ScanLine.{ScanLine}
 use Rattle.script_text.specs.declared.moment.ScanLine.TheVariants.{Download}

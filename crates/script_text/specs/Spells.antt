@@ -1,5 +1,5 @@
--- Which texts are scripts, and where one isn't: the first line that no script has there.
-use Rattle.std.specs.Prelude.{◌≡◌, ℕ, ◌+◌, ◌<◌, List, [], ◌∷◌, ◌++◌, length, map, fold, take, get_or, ◌⊎◌, Option, Some, None, Result, Ok, Err}
+-- Which texts are scripts, and where one isn't: the first line that no script has there (own rules).
+use Rattle.std.specs.Prelude.{◌≡◌, ℕ, ◌+◌, ◌<◌, List, [], ◌++◌, length, map, fold, take, get_or, ◌⊎◌, Result, Ok, Err}
 use Rattle.script_text.specs.declared.fault.ScriptCause.{ScriptCause}
 use Rattle.script_text.specs.declared.fault.ScriptCause.TheVariants.{End}
 use Rattle.script_text.specs.declared.fault.ScriptFault.{ScriptFault}

@@ -1,21 +1,20 @@
 -- How a tape is kept: what a leg reads from a scan on, and what the lines of a scan say to it. It serves private fields
 -- alone: nobody has to believe it.
-use Rattle.std.specs.Prelude.{◌≡◌, ℕ, ℤ, pos, negsuc, ◌+◌, ◌<◌, ◌≤◌, ◌≤ℤ◌, ◌==◌, ◌&&◌, nat_le, Bool, true, false, List, [], ◌∷◌, ◌++◌, length, map, fold, flat_map, slice_set, slice_index_or, Option, Some, None, is_none, if◌then◌else◌}
+use Rattle.std.specs.Prelude.{◌≡◌, ℕ, ℤ, ◌+◌, ◌<◌, ◌≤ℤ◌, ◌==◌, nat_le, Bool, true, false, List, [], ◌∷◌, ◌++◌, length, map, fold, flat_map, slice_set, slice_index_or, Option, Some, None, if◌then◌else◌}
 use Rattle.std.specs.List.{range_with_len}
 use Rattle.std.specs.List.Sorted.{IsNonDecreasingBy, IsPartitionPoint}
 use Rattle.tri_base.specs.Limits.{least_count, greatest_count}
 use Rattle.tri_base.specs.Downloads.{Download}
 use Rattle.tri_base.specs.Legs.{leg_part}
 use Rattle.tri_base.specs.declared.leg.Leg.{Leg}
-use Rattle.tri_base.specs.declared.leg.Triple.{Triple}
 use Rattle.tri_base.specs.declared.leg.Side.{Side}
 use Rattle.tri_base.specs.declared.leg.Side.TheVariants.{Left, Right}
 use Rattle.tri_base.specs.declared.point.Point.{Point}
-use Rattle.chassis.specs.Points.{inputs_of, is_input_kind}
+use Rattle.chassis.specs.Points.{is_input_kind}
 use Rattle.script_text.specs.declared.moment.ScanLine.{ScanLine}
 use Rattle.script_text.specs.declared.moment.ScanLine.TheVariants.{Set, Time, Download as DownloadLine, Mute, Poke as PokeLine, Replace as ReplaceLine, Swap as SwapLine, Read, Result, Drive}
 use Rattle.script_text.specs.MomentValue.{MomentValue}
-use Rattle.script_text.specs.LegScans.{LegAct, Poke, Replace, Swap, LegScan, first_time, same_leg}
+use Rattle.script_text.specs.LegScans.{LegAct, Poke, Replace, Swap, LegScan, same_leg}
 
 -- ---- the scans of moments
 

@@ -1,4 +1,4 @@
-use Rattle.std.proofs.Common.{refl, sym, ap, ◌+◌, ℕ}
+use Rattle.std.proofs.Common.{sym, ap, ◌+◌, ℕ}
 use Rattle.script_writer.proofs.Round.{round}
 use Rattle.script_maker.specs.Generated.{generated}
 use Rattle.script_maker.proofs.Plants.{points_length}

@@ -1,5 +1,4 @@
-use Rattle.std.proofs.Common.{◌≡◌, ◌++◌, [], ◌∷◌, arith, ap, ◌∙◌, pos, rules}
-use Rattle.std.proofs.lemmas.Grind.{common_steps}
+use Rattle.std.proofs.Common.{◌≡◌, ◌++◌, [], ◌∷◌, arith, ap, ◌∙◌, pos}
 use Rattle.tri_base.specs.declared.point.Point.{Point}
 use Rattle.script_maker.specs.Plants.{row_point}
 use Rattle.script_maker.proofs.Rows.{row_more}

@@ -1,4 +1,4 @@
-use Rattle.std.proofs.Common.{◌≡◌, ◌++◌, arith}
+use Rattle.std.proofs.Common.{◌≡◌, arith}
 use Rattle.script_lines.specs.Lines.{ended}
 use Rattle.script_maker.specs.Programs.{body_line}
 use Rattle.script_maker.proofs.Rows.{text_more}

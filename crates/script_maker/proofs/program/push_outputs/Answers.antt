@@ -1,4 +1,4 @@
-use Rattle.std.proofs.Common.{◌≡◌, ◌++◌, List, ℕ, OnOk, subst, codes}
+use Rattle.std.proofs.Common.{◌≡◌, List, ℕ, OnOk, subst, codes}
 use Rattle.script_maker.specs.Programs.{declaration}
 use Rattle.script_maker.proofs.Rows.{three}
 use Rattle.script_maker.proofs.program.push_outputs.Goals as goal

@@ -1,4 +1,4 @@
-use Rattle.std.proofs.Common.{◌≡◌, ◌∙◌, ◌<◌, sym, arith}
+use Rattle.std.proofs.Common.{◌∙◌, ◌<◌, sym, arith}
 use Rattle.script_text.proofs.Scans.{moment_before, moment_found, moment_other}
 use Rattle.script_text.proofs.find_moment.find_moment.Goals as goal
 

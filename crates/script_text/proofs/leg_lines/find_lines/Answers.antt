@@ -1,4 +1,4 @@
-use Rattle.std.proofs.Common.{◌≡◌, ◌∙◌, ◌<◌, sym, arith}
+use Rattle.std.proofs.Common.{◌∙◌, ◌<◌, sym, arith}
 use Rattle.script_text.proofs.Tapes.{lines_before, lines_found, lines_other}
 use Rattle.script_text.proofs.leg_lines.find_lines.Goals as goal
 

@@ -1,11 +1,9 @@
-use Rattle.std.proofs.Common.{◌≡◌, ◌∙◌, ◌+◌, sym, arith, ap, subst, length, Err, Ok, ◌==◌}
-use Rattle.std.proofs.lemmas.Bool.{eqb-true}
+use Rattle.std.proofs.Common.{◌≡◌, ◌∙◌, ◌+◌, sym, arith, ap, subst, length, Err}
 use Rattle.script_text.specs.Spells.{IsReading}
-use Rattle.script_text.specs.Standing.{after}
 use Rattle.script_text.specs.Inner.Steps.{fault_at}
 use Rattle.script_text.proofs.Kept.{reached}
 use Rattle.script_text.proofs.LineFacts.{bytes_each}
-use Rattle.script_text.proofs.Firsts.{all_read, at_first, accepted, stopped, finishes}
+use Rattle.script_text.proofs.Firsts.{all_read, accepted, stopped, finishes}
 use Rattle.script_text.proofs.read.read_bytes.Goals as goal
 
 pub returns-in-Err : goal.returns-in-Err

@@ -1,4 +1,4 @@
-use Rattle.std.proofs.Common.{◌≡◌, ◌+◌, ◌<◌, ◌^◌, length}
+use Rattle.std.proofs.Common.{◌+◌, ◌<◌, ◌^◌, length}
 use Rattle.script_lines.specs.Lines.{lines_of}
 use Rattle.script_text.proofs.Firsts.{HasRead}
 use Rattle.script_text.proofs.read.read_bytes.Given as goal

@@ -1,4 +1,4 @@
-use Rattle.std.proofs.Common.{◌≡◌, ◌<◌, arith, sym, ap, ◌∙◌, subst, get_or, length, map, ◌-◌, slice_set, ◌++◌, ◌∷◌, [], suc, vec_len, ℕ, List}
+use Rattle.std.proofs.Common.{◌≡◌, arith, sym, ap, ◌∙◌, subst, get_or, length, map, ◌-◌, slice_set, ◌∷◌, [], suc, vec_len, ℕ}
 use Rattle.std.proofs.lemmas.List.{map-append}
 use Rattle.tri_base.specs.declared.text.Text.{Text}
 use Rattle.script_text.specs.MomentValue.{MomentValue}

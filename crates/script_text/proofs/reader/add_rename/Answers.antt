@@ -1,4 +1,4 @@
-use Rattle.std.proofs.Common.{◌≡◌, ◌<◌, arith, sym, ap, ◌∙◌, subst, get_or, length, map, ◌-◌, slice_set, ◌++◌, ◌∷◌, [], suc, vec_len, ℕ, List}
+use Rattle.std.proofs.Common.{◌≡◌, arith, sym, subst, get_or, length, map, ◌-◌, slice_set, suc, vec_len, ℕ}
 use Rattle.script_text.specs.MomentValue.{MomentValue}
 use Rattle.script_text.specs.Standing.{with_last, with_rename}
 use Rattle.script_text.proofs.Moments.{written}

@@ -1,4 +1,4 @@
-use Rattle.std.proofs.Common.{◌≡◌, ◌<◌, arith}
+use Rattle.std.proofs.Common.{◌<◌, arith}
 use Rattle.script_text.proofs.Tapes.{row_before, row_found}
 use Rattle.script_text.proofs.row.find_row.Goals as goal
 

@@ -1,4 +1,4 @@
-use Rattle.std.proofs.Common.{◌≡◌, ◌∙◌, sym, subst, Option, ℕ, ap}
+use Rattle.std.proofs.Common.{◌∙◌, sym, subst, Option, ℕ, ap}
 use Rattle.chassis.specs.Points.{place_of}
 use Rattle.script_text.specs.Standing.{Standing, set_point}
 use Rattle.script_text.specs.Inner.Steps.{Steps}

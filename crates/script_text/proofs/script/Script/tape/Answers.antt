@@ -1,9 +1,6 @@
 use Rattle.std.proofs.Common.{◌≡◌, ◌∙◌, sym, ap, length, List, subst}
-use Rattle.tri_base.specs.declared.point.Point.{Point}
 use Rattle.std.specs.List.{All}
-use Rattle.chassis.specs.Points.{inputs_of}
 use Rattle.chassis.specs.Ranges.{Fits}
-use Rattle.script_text.specs.MomentValue.{MomentValue}
 use Rattle.script_text.specs.LegScans.{LegScan, IsReadable, TapeValue, tape_of}
 use Rattle.script_text.specs.Inner.LegParts.{places_from, rows_from, all_said, scans_kept, MomentsFit, RowValue, RowsSorted, LinesSorted}
 use Rattle.script_text.proofs.Readable.{all_read}

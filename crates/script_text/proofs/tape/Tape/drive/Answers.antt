@@ -1,7 +1,6 @@
-use Rattle.std.proofs.Common.{◌≡◌, ◌∙◌, sym, ap, refl, option_map}
-use Rattle.tri_base.specs.Downloads.{Download}
-use Rattle.script_text.specs.LegScans.{LegScan, shown_on, result_on, renames_of}
-use Rattle.script_text.specs.Inner.LegParts.{LegLinesValue, row_until}
+use Rattle.std.proofs.Common.{◌∙◌, sym, ap}
+use Rattle.script_text.specs.LegScans.{LegScan}
+use Rattle.script_text.specs.Inner.LegParts.{row_until}
 use Rattle.script_text.proofs.Tapes.{lines_seen}
 use Rattle.script_text.proofs.tape.Tape.drive.Goals as goal
 

@@ -1,4 +1,4 @@
-use Rattle.std.proofs.Common.{◌≡◌, ◌∙◌, sym, ap}
+use Rattle.std.proofs.Common.{◌∙◌, sym, ap}
 use Rattle.script_text.specs.LegScans.{LegScan}
 use Rattle.script_text.specs.Inner.LegParts.{RowValue, row_until}
 use Rattle.script_text.proofs.Tapes.{seen}

@@ -1,4 +1,4 @@
-use Rattle.std.proofs.Common.{◌≡◌, ◌∙◌, sym, ap, length}
+use Rattle.std.proofs.Common.{◌∙◌, sym, ap, length}
 use Rattle.script_text.specs.LegScans.{TapeValue}
 use Rattle.script_text.proofs.Tapes.{kept_length}
 use Rattle.script_text.proofs.tape.Tape.scans.Goals as goal
