@@ -1,0 +1,15 @@
+pub use Rattle.st_tree.specs.Tags
+pub use Rattle.st_core.specs.Core
+pub use Rattle.st_core.specs.Environments
+pub use Rattle.st_core.specs.Terms
+pub use Rattle.st_core.specs.Effects
+pub use Rattle.st_core.specs.Costs
+pub use Rattle.st_core.specs.Memory
+pub use Rattle.st_core.specs.Fits
+pub mod Types
+pub mod Functions
+pub mod Expressions
+pub mod Statements
+pub mod Programs
+pub mod Paths
+pub mod Worked
