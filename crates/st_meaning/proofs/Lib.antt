@@ -1,2 +1,4 @@
 pub mod Dearest
+pub mod Heights
+pub mod LowStatements
 pub mod Worked

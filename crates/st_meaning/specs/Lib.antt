@@ -12,4 +12,5 @@ pub mod Expressions
 pub mod Statements
 pub mod Programs
 pub mod Paths
+pub mod Laws
 pub mod Worked

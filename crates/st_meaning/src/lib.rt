@@ -2,6 +2,7 @@
 //! scan, and its cost. There is nothing here that runs.
 #![tactic(auto)]
 
+ghost use Rattle.st_meaning.specs.Laws.{StaysLowWhereShallow};
 ghost use Rattle.st_meaning.specs.Paths.{CostsDearestPath, LabelsCost};
 ghost use Rattle.st_meaning.specs.Worked.{Worked};
 
@@ -18,4 +19,9 @@ pub fn labels_cost()
 /// Programs worked by hand.
 pub fn worked_programs()
     ensures { Worked }
+{}
+
+/// Statements that nest no deeper than the limit have room for all operands that wait.
+pub fn shallow_statements_stay_low()
+    ensures { StaysLowWhereShallow }
 {}
