@@ -1,0 +1,6 @@
+pub mod Calm
+pub mod Countdown
+pub mod Faces
+pub mod FirstRefused
+pub mod Inner
+pub mod SingleTexts
