@@ -1,4 +1,4 @@
-use Rattle.std.proofs.Common.{◌≡◌, ◌∙◌, ◌<◌, length, absurd, arith, refl, sym, ap, ℕ, List, [], ◌∷◌, Option, Some, None, Bool, false}
+use Rattle.std.proofs.Common.{◌≡◌, ◌∙◌, ◌<◌, length, arith, refl, sym, ap, ℕ, List, [], ◌∷◌, Option, Some, None, Bool, false}
 use Rattle.std.specs.Prelude.{zip, drop}
 use Rattle.engine_face.specs.declared.refusal.Refusal.{Refusal}
 use Rattle.engine_face.specs.declared.refusal.Refusal.TheVariants as r

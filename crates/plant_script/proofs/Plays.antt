@@ -1,4 +1,4 @@
-use Rattle.std.proofs.Common.{◌≡◌, ◌∙◌, ◌+◌, ◌-◌, ◌≤◌, ◌<◌, refl, sym, ap, subst, ℕ, zero, suc, List, length, None, Bool, absurd, arith}
+use Rattle.std.proofs.Common.{◌≡◌, ◌∙◌, ◌+◌, ◌-◌, ◌≤◌, ◌<◌, refl, sym, ap, subst, ℕ, zero, suc, List, length, None, Bool, arith}
 use Rattle.std.proofs.lemmas.List.FromFn.{get_or-map-range_with_len, length-map-range_with_len}
 use Rattle.tri_base.specs.declared.leg.Leg.{Leg}
 use Rattle.tri_base.specs.declared.leg.Leg.TheVariants.{A, B, C}
@@ -22,10 +22,9 @@ tape_length v leg = length-map-range_with_len (scan_of v leg) 1 v.scans
 pub next_stands : (m : Meaning) (v : ScriptValue) (k : ℕ) (text text' : List ℕ) (counts counts' : Triple ℕ) → Stands m v k text counts
     → text' ≡ text_changed m (scan_of v A (suc k)).download text → m.builds text' ≡ None
     → counts' ≡ counts_behind (scan_of v A (suc k)) (scan_of v B (suc k)) (scan_of v C (suc k))
-        (accepts m (scan_of v A (suc k)).download text) (recovery_span (program_windows m text')) counts
+    (accepts m (scan_of v A (suc k)).download text) (recovery_span (program_windows m text')) counts
     → Stands m v (suc k) text' counts'
-unfolding text_after
-unfolding recovery_countdown
+unfolding text_after recovery_countdown
 next_stands m v k text text' counts counts' s h builds e =
     let a = scan_of v A (suc k) in
     let b = scan_of v B (suc k) in
@@ -36,13 +35,12 @@ next_stands m v k text text' counts counts' s h builds e =
       text_is = after;
       builds = builds;
       counts_are = e
-        ∙ (ap (λ x. counts_behind a b c (accepts m a.download x) (recovery_span (program_windows m text')) counts) s.text_is
-        ∙ (ap (λ x. counts_behind a b c (accepts m a.download old) (recovery_span (program_windows m x)) counts) after
-        ∙ ap (λ x. counts_behind a b c (accepts m a.download old) (recovery_span (program_windows m (text_after m v (suc k)))) x) s.counts_are));
+          ∙ (ap (λ x. counts_behind a b c (accepts m a.download x) (recovery_span (program_windows m text')) counts) s.text_is
+          ∙ (ap (λ x. counts_behind a b c (accepts m a.download old) (recovery_span (program_windows m x)) counts) after
+          ∙ ap (λ x. counts_behind a b c (accepts m a.download old) (recovery_span (program_windows m (text_after m v (suc k)))) x) s.counts_are));
     }
 
 -- how it stands before the first scan
 pub first_stands : (m : Meaning) (v : ScriptValue) (text : List ℕ) → text ≡ v.text → m.builds v.text ≡ None → Stands m v 0 text (record { a = 0; b = 0; c = 0 })
-unfolding text_after
-unfolding recovery_countdown
+unfolding text_after recovery_countdown
 first_stands m v text e builds = record { text_is = e; builds = ap m.builds e ∙ builds; counts_are = refl }

@@ -1,4 +1,4 @@
-use Rattle.std.proofs.Common.{◌≡◌, ◌∙◌, ◌+◌, ◌≤◌, ◌<◌, ◌⊎◌, inl, inr, ◌↔◌, refl, sym, ap, subst, ℕ, zero, suc, absurd, arith, Bool, true, false, nat_le}
+use Rattle.std.proofs.Common.{◌≡◌, ◌∙◌, ◌+◌, ◌≤◌, ◌<◌, ◌⊎◌, inl, inr, ◌↔◌, refl, sym, ap, subst, ℕ, zero, suc, arith, Bool, true, false, nat_le}
 use Rattle.std.proofs.lemmas.Bool.{leb-true, leb-false}
 use Rattle.tri_base.specs.declared.leg.Leg.{Leg}
 use Rattle.tri_base.specs.declared.leg.Leg.TheVariants.{A, B, C}
@@ -61,19 +61,19 @@ pub quiet_is : (m : Meaning) (v : ScriptValue) (k : ℕ) (counts : Triple ℕ) �
 quiet_is m v k counts e =
     let t = countdowns m v k in
     let there = λ (h : IsQuietThere counts (scan_of v A k) (scan_of v B k) (scan_of v C k)).
-      subst (λ t. IsQuietThere t (scan_of v A k) (scan_of v B k) (scan_of v C k)) e h in
+    subst (λ t. IsQuietThere t (scan_of v A k) (scan_of v B k) (scan_of v C k)) e h in
     let back = λ (h : IsQuietThere t (scan_of v A k) (scan_of v B k) (scan_of v C k)).
-      subst (λ t. IsQuietThere t (scan_of v A k) (scan_of v B k) (scan_of v C k)) (sym e) h in
-    ( λ h. let q = there h in record {
+    subst (λ t. IsQuietThere t (scan_of v A k) (scan_of v B k) (scan_of v C k)) (sym e) h in (
+      λ h. let q = there h in record {
         one = to (one_of t.a t.b t.c q.few);
         faces = faces_of v k q.face_a q.face_b q.face_c;
-      }
-    , λ q. back (record {
+      },
+      λ q. back (record {
         few = few_of t.a t.b t.c (from q.one);
         face_a = q.faces A;
         face_b = q.faces B;
         face_c = q.faces C;
-      })
+      }),
     )
   where
     to : AtMostOne (countdowns m v k).a (countdowns m v k).b (countdowns m v k).c → (x y : Leg) → IsSuspect m v x k → IsSuspect m v y k → x ≡ y

@@ -25,7 +25,19 @@ pub(crate) fn shows_both_the_same(tape: &Tape, scan: u32) -> bool
 fn same_words(left: &[i64], right: &[i64]) -> bool
     ensures { IsTrue result ↔ (left.now ≡ right.now) }
 {
-    left == right
+    let mut left_behind = left;
+    let mut right_behind = right;
+    'words: while let [word, others @ ..] = left_behind {
+        let [other, right_others @ ..] = right_behind else {
+            return false;
+        };
+        if *word != *other {
+            return false;
+        }
+        left_behind = others;
+        right_behind = right_others;
+    }
+    right_behind.is_empty()
 }
 
 /// Whether words spell a scan time and readings.
