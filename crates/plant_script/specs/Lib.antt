@@ -1,6 +1,0 @@
-pub mod Calm
-pub mod Countdown
-pub mod Faces
-pub mod FirstRefused
-pub mod Inner
-pub mod SingleTexts

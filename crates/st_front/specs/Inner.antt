@@ -1,2 +1,0 @@
--- Nobody has to believe what stands here: it serves private functions alone.
-pub mod Steps

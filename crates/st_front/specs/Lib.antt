@@ -1,2 +1,0 @@
-pub mod FrontEnd
-pub mod Inner
