@@ -31,15 +31,17 @@ HasRange Ao low high tolerance = IsAnalogueRange low high tolerance
 abbrev pub Fits : Point → Type 0
 Fits p = HasRange p.kind p.low p.high p.tolerance
 
--- The same as tests.
+-- The range and tolerance of a discrete point, as a test.
 abbrev pub is_discrete_range : (low high tolerance : ℤ) → Bool
 is_discrete_range low high tolerance = int_eq low (pos 0) && int_eq high (pos 1) && int_eq tolerance (pos 0)
 
+-- The range and tolerance of an analogue point, as a test.
 abbrev pub is_analogue_range : (low high tolerance : ℤ) → Bool
 is_analogue_range low high tolerance =
     int_le least_count low && int_le low (pos 0) && int_le (pos 0) high && int_le high greatest_count
     && int_le (pos 0) tolerance && int_le tolerance greatest_tolerance
 
+-- A range and tolerance of a kind, as a test.
 abbrev pub has_range : PointKind → (low high tolerance : ℤ) → Bool
 has_range Di low high tolerance = is_discrete_range low high tolerance
 has_range Do low high tolerance = is_discrete_range low high tolerance

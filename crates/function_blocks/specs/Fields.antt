@@ -58,7 +58,7 @@ timer_fields =
     ∷ field (codes "M") Hidden kind.Bool
     ∷ []
 
--- the fields of each block; M of F_TRIG starts at 1, all other fields at 0
+-- the fields of each block; M of F_TRIG starts at 1 (own rule: its first call is no edge), all other fields at 0
 abbrev pub fields_of : BlockKind → List Field
 fields_of block.RTrig = trigger_fields (pos 0)
 fields_of block.FTrig = trigger_fields (pos 1)

@@ -18,7 +18,8 @@ use Rattle.scan_machine.specs.Elements.{element}
 
 -- ---- operands
 
--- the operands that an instruction leaves, the last one first, and whether a number was clamped
+-- the operands that an instruction leaves, the last one first, and the flag: a number or an index was clamped, or a
+-- divisor was 0
 pub record Operated : Type 0 where
   pub stack : List ℤ
   pub flag : Bool
@@ -64,8 +65,9 @@ operate _ _ = None
 
 -- ---- words
 
--- Where the machine stands: the next instruction, the operands with the last one first, the words, whether a computed
--- number was clamped, and the stores so far, each address once with the number that stood there before.
+-- Where the machine stands: the next instruction, the operands with the last one first, the words, the flag (a number or
+-- an index was clamped, or a divisor was 0), and the stores so far, each address once with the number that stood there
+-- before.
 pub record State : Type 0 where
   pub index : ℕ
   pub stack : List ℤ
@@ -181,7 +183,7 @@ pub record Memory : Type 0 where
   pub words : List ℤ
   pub stores : List (ℕ × ℤ)
 
--- what a run leaves: the memory, whether a computed number was clamped, and how many instructions were done
+-- what a run leaves: the memory, the flag, and how many instructions were done
 pub record Ran : Type 0 where
   pub memory : Memory
   pub flag : Bool

@@ -1,4 +1,4 @@
-ghost use Rattle.std.specs.Prelude.{◌≡◌, [], ◌∷◌, ◌++◌, OnOk, IfOk};
+ghost use Rattle.std.specs.Prelude.{◌≡◌, [], ◌∷◌, ◌++◌, OnErr, OnOk, IfOk};
 
 use std::alloc::Global;
 use std::marker::Model;
@@ -30,14 +30,16 @@ impl Block {
 
     /// Adds bytes at the end.
     pub fn add(&mut self, bytes: &[u8]) -> Result<(), NoMemory>
-        ensures { OnOk result (self.new ≡ self.old ++ bytes.now) }
+        ensures added { OnOk result (self.new ≡ self.old ++ bytes.now) }
+        ensures refused { OnErr result (self.new ≡ self.old) }
     {
         push_bytes(&mut self.text, bytes)
     }
 
     /// Adds one byte at the end.
     pub fn add_byte(&mut self, byte: u8) -> Result<(), NoMemory>
-        ensures { OnOk result (self.new ≡ self.old ++ byte ∷ []) }
+        ensures added { OnOk result (self.new ≡ self.old ++ byte ∷ []) }
+        ensures refused { OnErr result (self.new ≡ self.old) }
     {
         self.add(&[byte])
     }

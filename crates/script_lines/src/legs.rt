@@ -1,4 +1,4 @@
-ghost use Rattle.std.specs.Prelude.{◌≡◌, [], ◌∷◌, ◌++◌, OnOk};
+ghost use Rattle.std.specs.Prelude.{◌≡◌, [], ◌∷◌, ◌++◌, OnErr, OnOk};
 
 use std::alloc::Global;
 use std::marker::Model;
@@ -31,14 +31,16 @@ impl Legs {
 
     /// Adds a leg at the end.
     pub fn add(&mut self, leg: Leg) -> Result<(), NoMemory>
-        ensures { OnOk result (self.new ≡ self.old ++ leg ∷ []) }
+        ensures added { OnOk result (self.new ≡ self.old ++ leg ∷ []) }
+        ensures refused { OnErr result (self.new ≡ self.old) }
     {
         self.legs.push(leg).map_err(|_| NoMemory)
     }
 
     /// Adds other legs at the end.
     pub fn append(&mut self, others: &Legs) -> Result<(), NoMemory>
-        ensures { OnOk result (self.new ≡ self.old ++ others.now) }
+        ensures added { OnOk result (self.new ≡ self.old ++ others.now) }
+        ensures refused { OnErr result (self.new ≡ self.old) }
     {
         self.legs
             .extend_from_slice(others.legs.as_slice())

@@ -1,4 +1,4 @@
-ghost use Rattle.std.specs.Prelude.{◌≡◌, [], ◌∷◌, ◌++◌, OnOk, IfOk};
+ghost use Rattle.std.specs.Prelude.{◌≡◌, [], ◌∷◌, ◌++◌, OnErr, OnOk, IfOk};
 
 use std::alloc::Global;
 use std::marker::Model;
@@ -30,7 +30,8 @@ impl Numbers {
 
     /// Adds a number at the end.
     pub fn add(&mut self, number: i64) -> Result<(), NoMemory>
-        ensures { OnOk result (self.new ≡ self.old ++ number ∷ []) }
+        ensures added { OnOk result (self.new ≡ self.old ++ number ∷ []) }
+        ensures refused { OnErr result (self.new ≡ self.old) }
     {
         push_word(&mut self.words, number)
     }

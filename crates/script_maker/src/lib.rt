@@ -7,8 +7,6 @@ mod moments;
 mod plant;
 mod program;
 mod script;
-#[cfg(test)]
-mod tests;
 
 pub use laws::generated_is_script;
 pub use script::make_script;

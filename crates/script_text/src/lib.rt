@@ -12,8 +12,6 @@ mod reader;
 mod row;
 mod script;
 mod tape;
-#[cfg(test)]
-mod tests;
 
 pub use act::Act;
 pub use fault::{ScriptCause, ScriptFault};

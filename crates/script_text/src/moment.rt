@@ -1,4 +1,4 @@
-ghost use Rattle.std.specs.Prelude.{◌≡◌, map, OnOk};
+ghost use Rattle.std.specs.Prelude.{◌≡◌, map, OnErr, OnOk};
 ghost use Rattle.script_text.specs.Standing.{new_moment, with_line};
 
 use script_lines::{Block, Numbers};
@@ -89,7 +89,8 @@ impl Moment {
 
     /// Adds a line behind the others.
     pub fn add(&mut self, line: ScanLine) -> Result<(), NoMemory>
-        ensures { OnOk result (self.new ≡ with_line line self.old) }
+        ensures added { OnOk result (self.new ≡ with_line line self.old) }
+        ensures refused { OnErr result (self.new ≡ self.old) }
     {
         let Ok(()) = self.lines.push(line) else {
             return Err(NoMemory);

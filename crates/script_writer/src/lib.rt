@@ -4,8 +4,6 @@
 mod laws;
 mod line;
 mod script;
-#[cfg(test)]
-mod tests;
 mod word;
 
 pub use laws::canonical_text_is_read;

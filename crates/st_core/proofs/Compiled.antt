@@ -49,5 +49,9 @@ module _ (shape : Shape) (a : Act) (fits : ActFits shape [] a) where
     does = does_body;
   }
 
+-- the code of a body is such code
+pub body_code_is : (shape : Shape) (a : Act) → ActFits shape [] a → IsCodeOf shape a (body_code shape a)
+body_code_is shape a fits = code_of shape a fits
+
 pub has_code : HasCode
-has_code shape a fits = code_of shape a fits
+has_code shape a fits = (body_code shape a, body_code_is shape a fits)

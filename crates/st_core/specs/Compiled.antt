@@ -9,7 +9,6 @@ use Rattle.st_core.specs.Effects.{effect_of}
 use Rattle.st_core.specs.Costs.{cost_of}
 use Rattle.st_core.specs.Memory.{Shape, total_of, shape_of, words_of}
 use Rattle.st_core.specs.Fits.{ActFits}
-use Rattle.st_core.specs.Inner.Codes.{body_code}
 
 -- A run of the code on the words of an environment ends, leaves the words and the flag of what the act does to it, and
 -- takes no more instructions than the act costs. Stores that were noted before the run may be any.
@@ -28,4 +27,4 @@ pub record IsCodeOf (shape : Shape) (a : Act) (code : List Instr) : Type 0 where
 
 -- Each body that fits has such code.
 abbrev pub HasCode : Type 0
-HasCode = (shape : Shape) → (a : Act) → ActFits shape [] a → IsCodeOf shape a (body_code shape a)
+HasCode = (shape : Shape) → (a : Act) → ActFits shape [] a → (code : List Instr) × IsCodeOf shape a code

@@ -4,7 +4,7 @@ use Rattle.st_core.specs.Core.{Term, Act}
 use Rattle.st_core.specs.Core as c
 use Rattle.st_core.specs.Effects.{written}
 
--- A number, a field or an index is 1, and each operator is 1 more than its operands.
+-- A number and a field are 1; an element is 1 more than its index, and each operator 1 more than its operands.
 unfoldable pub term_cost : Term → ℕ
 term_cost (c.Literal v) = 1
 term_cost (c.Field n place kind) = 1

@@ -1,5 +1,5 @@
--- What a statement does (IEC 61131-3:2013, 7.3.3): the values of the tags after it, whether a number was clamped in it,
--- and how it ends.
+-- What a statement does (IEC 61131-3:2013, 7.3.3): the values of the tags after it, whether a computed number or an
+-- index was clamped in it or a divisor was 0, and how it ends.
 use Rattle.std.specs.Prelude.{ℕ, zero, suc, ℤ, pos, ◌+ℤ◌, ◌-ℤ◌, int_lt, unsigned_abs, Bool, false, ◌||◌, if◌then◌else◌, List, [], ◌∷◌}
 use Rattle.function_blocks.specs.Values.{is_on, clamped}
 use Rattle.function_blocks.specs.Arithmetic.{bounded}

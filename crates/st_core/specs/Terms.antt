@@ -1,5 +1,5 @@
--- What an expression is worth (IEC 61131-3:2013, 7.3.2): a number, and whether a computed number was clamped in it or a
--- divisor was 0. All operands are evaluated, whether they decide or not (own rule).
+-- What an expression is worth (IEC 61131-3:2013, 7.3.2): a number, and whether a computed number or an index was
+-- clamped in it or a divisor was 0. All operands are evaluated, whether they decide or not (own rule).
 use Rattle.std.specs.Prelude.{ℤ, pos, ◌+ℤ◌, ◌-ℤ◌, ◌*ℤ◌, neg_ℤ, int_lt, unsigned_abs, Bool, false, not, ◌&&◌, ◌||◌, if◌then◌else◌}
 use Rattle.std.specs.Int.{int_max, int_min}
 use Rattle.std.specs.Int.RustNames.{int_le}
@@ -24,7 +24,7 @@ truth b = plain (number b)
 abbrev pub flagged : Bool → Computed → Computed
 flagged flag x = record { value = x.value; flag = flag || x.flag }
 
--- An operator with one operand: -, ABS, conversions (6.6.2.5.2, 6.6.2.5.3), NOT, and the test of a label.
+-- An operator with one operand: -, ABS, conversions and NOT (6.6.2.5), and the test of a label.
 abbrev pub unary : UnaryOperator → ℤ → Computed
 unary (c.Negate kind) x = exact kind (neg_ℤ x)
 unary (c.Absolute kind) x = exact kind (pos (unsigned_abs x))
@@ -32,7 +32,7 @@ unary (c.Convert kind) x = exact kind x
 unary c.Not x = truth (not (is_on x))
 unary (c.Within first last) x = truth (int_le first x && int_le x last)
 
--- An operator with two operands (6.6.2.5.3 to 6.6.2.5.6).
+-- An operator with two operands (6.6.2.5).
 abbrev pub binary : BinaryOperator → ℤ → ℤ → Computed
 binary (c.Add kind) x y = exact kind (x +ℤ y)
 binary (c.Subtract kind) x y = exact kind (x -ℤ y)
@@ -51,7 +51,7 @@ binary c.IsAbove x y = truth (int_lt y x)
 binary c.IsAtMost x y = truth (int_le x y)
 binary c.IsAtLeast x y = truth (int_le y x)
 
--- LIMIT is MIN(MAX(IN, MN), MX), and SEL is IN0 where G is FALSE, else IN1 (6.6.2.5.5).
+-- LIMIT is MIN(MAX(IN, MN), MX), and SEL is IN0 where G is FALSE, else IN1 (6.6.2.5).
 abbrev pub ternary : TernaryOperator → ℤ → ℤ → ℤ → Computed
 ternary c.Limit mn x mx = plain (int_min (int_max x mn) mx)
 ternary c.Select g x y = plain (if is_on g then y else x)

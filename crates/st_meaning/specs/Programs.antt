@@ -52,8 +52,8 @@ output_of tags env p =
 
 -- ---- a scan (own rule)
 
--- What a scan leaves: the values of the tags, whether a number was clamped in it, and the values of the output points,
--- in their order.
+-- What a scan leaves: the values of the tags, whether a computed number or an index was clamped in it or a divisor was
+-- 0, and the values of the output points, in their order.
 pub record Scanned : Type 0 where
   pub env : Env
   pub flag : Bool

@@ -19,6 +19,3 @@ pub use fault::ParseFault;
 pub use laws::{nests_as_its_tokens, one_tree};
 pub use nesting::first_too_deep;
 pub use parser::parse;
-
-#[cfg(test)]
-mod tests;

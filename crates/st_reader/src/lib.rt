@@ -14,6 +14,3 @@ pub use laws::one_lexing;
 pub use lexer::lex;
 pub use reader::read_program;
 pub use st_parser::{nests_as_its_tokens, one_tree};
-
-#[cfg(test)]
-mod tests;

@@ -1,6 +1,6 @@
 -- What a function over expressions makes of each part of the grammar, where the parts inside have been replaced by
--- what it made of them: one record of ten steps, and the function that it gives. What is spelled, types, values, costs
--- and code are such records.
+-- what it made of them: one record of ten steps, and the function that it gives. What is spelled, how deep a tree nests,
+-- its types and what it is in the core are such records.
 use Rattle.std.specs.Prelude.{List}
 use Rattle.st_tree.specs.declared.expression.Operation.{Operation}
 use Rattle.st_tree.specs.declared.expression.EqualOperator.{EqualOperator}
@@ -47,27 +47,35 @@ pub record ExpressionSteps (P A B : Type 0) : Type 0 where
 
 -- the function over each of the ten types
 module _ {P A B : Type 0} (s : ExpressionSteps P A B) where
+  -- the step of the arguments of a function
   abbrev pub arguments_step : Arguments-F P A B A A A A A A A → B
   arguments_step x = s.arguments x.first x.more
 
+  -- the step of operands joined by <, >, <= or >=
   abbrev pub comparison_step : Comparison-F P A B A A A A A A A → A
   comparison_step x = s.comparison x.first x.more
 
+  -- the step of operands joined by AND
   abbrev pub conjunction_step : Conjunction-F P A B A A A A A A A → A
   conjunction_step x = s.conjunction x.first x.more
 
+  -- the step of operands joined by = or <>
   abbrev pub equality_step : Equality-F P A B A A A A A A A → A
   equality_step x = s.equality x.first x.more
 
+  -- the step of operands joined by XOR
   abbrev pub exclusive_step : Exclusive-F P A B A A A A A A A → A
   exclusive_step x = s.exclusive x.first x.more
 
+  -- the step of operands joined by OR
   abbrev pub expr_step : Expr-F P A B A A A A A A A → A
   expr_step x = s.disjunction x.first x.more
 
+  -- the step of factors
   abbrev pub product_step : Product-F P A B A A A A A A A → A
   product_step x = s.product x.first x.more
 
+  -- the step of terms
   abbrev pub sum_step : Sum-F P A B A A A A A A A → A
   sum_step x = s.sum x.first x.more
 

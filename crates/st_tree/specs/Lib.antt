@@ -11,7 +11,6 @@ pub mod Expressions
 pub mod Declarations
 pub mod Statements
 pub mod Programs
-pub mod Places
 pub mod Tags
 pub mod Nesting
 pub mod TreeNesting

@@ -4,6 +4,7 @@ use Rattle.std.specs.List.{position, enumerate_from}
 use Rattle.std.specs.Option.{option_map}
 use Rattle.std.specs.Str.{bytes_eq}
 use Rattle.st_tree.specs.declared.tag.Tag.{Tag}
+use Rattle.st_tree.specs.Tags.{tag_named}
 use Rattle.st_types.specs.Inner.Places.{place_of}
 use Rattle.st_types.proofs.Positions.{position_cons, some_there, none_there}
 use Rattle.tag_layout.specs.declared.placed.PlacedTag.{PlacedTag}
@@ -44,3 +45,14 @@ named_there tags name place ps o got all there =
 pub named_nowhere : (tags : List Tag) (name : List ℕ) → None ≡ place_of tags name → None ≡ placed_named tags name
 unfolding placed_named
 named_nowhere tags name nowhere = none_there (λ (p : PlacedTag). bytes_eq name p.name) (placed_tags tags) (nowhere ∙ place_is tags name)
+
+-- the declared tag at the place of a name is the tag of the name
+pub declared_there : (tags : List Tag) (name : List ℕ) (place : ℕ) (ts : List Tag) (o : Option Tag)
+    → o ≡ slice_get ts place → ts ≡ tags → Some place ≡ place_of tags name → o ≡ tag_named tags name
+unfolding tag_named
+declared_there tags name place ts o got all there =
+    got ∙ (ap (λ us. slice_get us place) all ∙ some_there (λ (t : Tag). bytes_eq name t.name) tags place there)
+
+pub declared_nowhere : (tags : List Tag) (name : List ℕ) → None ≡ place_of tags name → None ≡ tag_named tags name
+unfolding tag_named
+declared_nowhere tags name nowhere = none_there (λ (t : Tag). bytes_eq name t.name) tags nowhere

@@ -1,6 +1,6 @@
 ghost use Rattle.std.specs.Prelude.{◌≡◌, ◌≤◌, ◌+◌, IfOk, IfSome};
 ghost use Rattle.tri_base.specs.Limits.{word_limit};
-ghost use Rattle.st_tree.specs.Tags.{tags_of};
+ghost use Rattle.st_tree.specs.Tags.{tags_of, tag_named};
 ghost use Rattle.st_types.specs.Inner.Places.{place_of};
 ghost use Rattle.tag_layout.specs.Layout.{Lays, words_of, total_words, placed_tags, placed_named, address_of, first_words, AreApart};
 
@@ -92,6 +92,17 @@ impl Layout {
     {
         match self.place(name) {
             Some(place) => self.placed.get(place).copied(),
+            None => None,
+        }
+    }
+
+    /// The tag of a name as it is declared, in constant time; None exactly where no tag has the
+    /// name.
+    pub fn declared(&self, name: &Name) -> Option<Tag>
+        ensures { result ≡ tag_named self.now name.now }
+    {
+        match self.place(name) {
+            Some(place) => self.tags.get(place).copied(),
             None => None,
         }
     }

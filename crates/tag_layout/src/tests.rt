@@ -2,10 +2,13 @@ use crate::{LayFault, Layout, lay};
 use chassis::Chassis;
 use function_blocks::{BlockKind, Kind};
 use sqlite_items::Items;
-use st_tree::{Block, Constant, Declaration, DeclaredType, Integer, Names, PlacedName, Sign, Tree};
+use st_tree::{
+    Block, Constant, Declaration, DeclaredType, ExternalDeclaration, Integer, Names, PlacedName,
+    Sign, Tree,
+};
 use st_types::check;
 use std::alloc::Global;
-use tri_base::Name;
+use tri_base::{Name, Point, PointKind};
 
 /// A tag's name, its type and its first value.
 type Row = (&'static [u8], DeclaredType, Option<i32>);
@@ -57,6 +60,61 @@ fn layout_of(alloc: Global, rows: &[Row]) -> Option<Result<Layout, LayFault>> {
     };
     let typed = check(alloc, tree, &Chassis::new(alloc)).ok()?;
     Some(lay(alloc, &typed))
+}
+
+/// The program `VAR_EXTERNAL X, Y : BOOL; END_VAR VAR A, B : INT := 5; END_VAR`, over a chassis
+/// with the points Y and X.
+fn with_points(alloc: Global) -> Option<Layout> {
+    let placed = |bytes: &[u8]| Some(PlacedName {
+        name: Name::read(bytes)?,
+        place: 0,
+    });
+    let mut externals = Items::new(alloc);
+    let mut more = Items::new(alloc);
+    more.push(placed(b"Y")?).ok()?;
+    externals
+        .push(ExternalDeclaration {
+            names: Names {
+                first: placed(b"X")?,
+                more,
+            },
+            declared: Kind::Bool,
+        })
+        .ok()?;
+    let mut others = Items::new(alloc);
+    let mut more = Items::new(alloc);
+    more.push(placed(b"B")?).ok()?;
+    others
+        .push(Declaration {
+            names: Names {
+                first: placed(b"A")?,
+                more,
+            },
+            declared: DeclaredType::Simple(Kind::Int),
+            constant: Some(Constant::Integer(integer(5))),
+        })
+        .ok()?;
+    let mut blocks = Items::new(alloc);
+    blocks.push(Block::External(externals)).ok()?;
+    blocks.push(Block::Plain(others)).ok()?;
+    let tree = Tree {
+        name: placed(b"P")?,
+        blocks,
+        statements: Items::new(alloc),
+    };
+    let mut chassis = Chassis::new(alloc);
+    for name in [b"Y", b"X"] {
+        chassis
+            .add(Point {
+                name: Name::read(name)?,
+                kind: PointKind::Di,
+                low: 0,
+                high: 1,
+                tolerance: 0,
+            })
+            .ok()?;
+    }
+    lay(alloc, &check(alloc, tree, &chassis).ok()?).ok()
 }
 
 /// Whether a program with these tags is laid out with these addresses, each of a name and a field,
@@ -124,11 +182,38 @@ fn tags_lie_in_order_of_declaration(rt: HostRuntime) {
     assert!(rt; laid);
 }
 
-/// How many words are told to be too many; None where there is a layout, or no program.
-fn too_many(alloc: Global, rows: &[Row]) -> Option<usize> {
+#[test]
+fn tags_of_points_have_words_too(rt: HostRuntime) {
+    let alloc = rt.alloc();
+    let rows: [(&[u8], Option<usize>); 4] = [
+        (b"X", Some(0)),
+        (b"Y", Some(1)),
+        (b"A", Some(2)),
+        (b"B", Some(3)),
+    ];
+    let mut as_told = false;
+    if let Some(layout) = with_points(alloc) {
+        as_told = layout.tags().len() == 4;
+        for (name, address) in rows {
+            let name = Name::read(name);
+            as_told = as_told && name.is_some_and(|name| layout.address(&name, 0) == address);
+        }
+        let first = layout.first(alloc);
+        as_told = as_told && first.is_ok_and(|words| words.items() == [0, 0, 5, 5].as_slice());
+    }
+    assert!(rt; as_told);
+}
+
+/// What laying out answers of a program: how many words its layout has and its first words are, or
+/// how many are told to be too many. None where it is no program, or memory fails.
+fn laid_or_told(alloc: Global, rows: &[Row]) -> Option<Result<(usize, usize), usize>> {
     match layout_of(alloc, rows)? {
-        Ok(_) | Err(LayFault::NoMemory) => None,
-        Err(LayFault::TooManyWords { words }) => Some(words),
+        Ok(layout) => {
+            let first = layout.first(alloc).ok()?;
+            Some(Ok((layout.words(), first.items().len())))
+        }
+        Err(LayFault::TooManyWords { words }) => Some(Err(words)),
+        Err(LayFault::NoMemory) => None,
     }
 }
 
@@ -136,9 +221,9 @@ fn too_many(alloc: Global, rows: &[Row]) -> Option<usize> {
 fn more_than_4096_words_are_too_many(rt: HostRuntime) {
     let alloc = rt.alloc();
     let told = [
-        too_many(alloc, &[(b"A", array(0, 4_095), None)]),
-        too_many(alloc, &[(b"A", array(0, 4_096), None)]),
-        too_many(
+        laid_or_told(alloc, &[(b"A", array(0, 4_095), None)]),
+        laid_or_told(alloc, &[(b"A", array(0, 4_096), None)]),
+        laid_or_told(
             alloc,
             &[
                 (b"A", array(i32::MIN, i32::MAX), None),
@@ -146,5 +231,10 @@ fn more_than_4096_words_are_too_many(rt: HostRuntime) {
             ],
         ),
     ];
-    assert_eq!(rt; told, [None, Some(4_097), Some(8_589_934_592)]);
+    let expected = [
+        Some(Ok((4_096, 4_096))),
+        Some(Err(4_097)),
+        Some(Err(8_589_934_592)),
+    ];
+    assert_eq!(rt; told, expected);
 }

@@ -17,9 +17,10 @@ scan_limit = 2000
 abbrev pub scan_time_limit : ℤ
 scan_time_limit = pos 10000
 
--- The ends of a count, which has 16 bits.
+-- The least count, which has 16 bits.
 abbrev pub least_count : ℤ
 least_count = negsuc 32767
 
+-- The greatest count.
 abbrev pub greatest_count : ℤ
 greatest_count = pos 32767

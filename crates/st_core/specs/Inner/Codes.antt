@@ -1,3 +1,4 @@
+-- Nobody has to believe what stands here: it serves private functions alone.
 -- The instructions of terms and acts.
 use Rattle.std.specs.Prelude.{◌≡◌, ◌⊎◌, ℕ, ◌+◌, ℤ, List, [], ◌∷◌, ◌++◌}
 use Rattle.scan_machine.specs.declared.instructions.Instr.{Instr}

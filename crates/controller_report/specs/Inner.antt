@@ -1,0 +1,2 @@
+-- Nobody has to believe what stands here: it serves private functions alone.
+pub mod Sums

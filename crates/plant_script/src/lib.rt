@@ -1,0 +1,16 @@
+//! The script over an engine: which of its blocks the engine refuses, and how far a play of it is
+//! calm.
+#![tactic(auto)]
+
+mod countdown;
+mod faces;
+mod refused;
+mod single_text;
+mod uncalm;
+
+pub use refused::first_refused;
+pub use script_text::{
+    Act, Moment, ScanLine, Script, ScriptCause, ScriptFault, Setting, Tape, read_script,
+};
+pub use single_text::{built, judged, recovery_span, windows};
+pub use uncalm::first_uncalm;

@@ -1,0 +1,11 @@
+pub mod Lookups
+pub mod FieldPlaces
+pub mod OwnTypes
+pub mod RowCodes
+pub mod Primaries
+pub mod CallCodes
+pub mod LabelCodes
+pub mod ListCodes
+pub mod StatementCodes
+pub mod BlockCodes
+pub mod Assembled

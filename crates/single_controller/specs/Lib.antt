@@ -1,0 +1,3 @@
+pub mod Controller
+pub mod Inner
+pub mod Standing

@@ -1,0 +1,10 @@
+pub use Rattle.engine_face.specs.Meaning
+pub use Rattle.st_front.specs.FrontEnd
+pub use Rattle.st_meaning.specs.Programs
+pub use Rattle.download_change.specs.Renames
+pub use Rattle.download_change.specs.Kept
+pub mod Building
+pub mod Running
+pub mod StructuredText
+pub mod Laws
+pub mod Inner

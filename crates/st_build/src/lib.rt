@@ -1,0 +1,14 @@
+//! The engine of Structured Text: it reads, checks and compiles programs, changes them, and runs
+//! their scans.
+#![tactic(auto)]
+
+mod building;
+mod changing;
+mod engine;
+mod laws;
+mod program;
+mod scanning;
+
+pub use engine::StEngine;
+pub use laws::{each_text_is_judged, scans_are_runs};
+pub use program::StProgram;

@@ -1,0 +1,3 @@
+pub mod FrontEnd
+pub mod Inner
+pub mod Judging

@@ -1,0 +1,9 @@
+pub mod Holding
+pub mod Declaring
+pub mod SettingWords
+pub mod TakingWords
+pub mod TellingStores
+pub mod Named
+pub mod Looping
+pub mod Wired
+pub mod ByName

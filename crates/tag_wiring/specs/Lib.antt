@@ -1,0 +1,9 @@
+pub use Rattle.tri_base.specs.Noted
+pub use Rattle.tri_base.specs.Rows
+pub use Rattle.chassis.specs.Points
+pub use Rattle.tag_layout.specs.Layout
+pub use Rattle.st_meaning.specs.Programs
+pub mod HeldEnvironments
+pub mod PointWords
+pub mod Laws
+pub mod Inner

@@ -1,0 +1,16 @@
+//! The words that stand for points: which words of a program's memory are set from the inputs, and
+//! which give the outputs.
+#![tactic(auto)]
+
+pub mod by_name;
+mod inputs;
+pub mod laws;
+mod names;
+mod outputs;
+mod tables;
+mod wiring;
+
+pub use wiring::Wiring;
+
+#[cfg(test)]
+mod tests;

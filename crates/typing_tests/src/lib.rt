@@ -1,5 +1,0 @@
-//! Tests of the type checker on the texts of whole programs. It has nothing but tests.
-#![tactic(auto)]
-
-#[cfg(test)]
-mod tests;
