@@ -10,7 +10,7 @@ use Rattle.st_core.specs.Core.{Name, Term, Act}
 use Rattle.st_core.specs.Core as c
 use Rattle.st_core.specs.Effects.{is_past}
 use Rattle.st_core.specs.Costs.{term_cost, cost_of}
-use Rattle.st_core.specs.Inner.Codes.{size_of, loop_size}
+use Rattle.st_core.specs.Codes.{size_of, loop_size}
 use Rattle.st_core.proofs.Loops.{written_past, written_more}
 use Rattle.st_meaning.specs.Types.{type_of}
 use Rattle.st_meaning.specs.Expressions.{Elaborated}

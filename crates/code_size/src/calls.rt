@@ -5,7 +5,7 @@ ghost use Rattle.st_tree.specs.declared.declaration.DeclaredType.{DeclaredType};
 ghost use Rattle.st_tree.specs.declared.tag.Tag.{Tag};
 ghost use Rattle.st_tree.specs.Typing.Statements.{inputs_in};
 ghost use Rattle.st_core.specs.Core.{Name};
-ghost use Rattle.st_core.specs.Inner.Codes.{size_of};
+ghost use Rattle.st_core.specs.Codes.{size_of};
 ghost use Rattle.st_meaning.specs.Statements.{in_order, set_input, given, block_call};
 ghost use Rattle.code_size.specs.Limits.{limited};
 

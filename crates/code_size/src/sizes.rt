@@ -4,7 +4,7 @@ ghost use Rattle.std.specs.Prelude.{◌≡◌, List, map};
 ghost use Rattle.st_tree.specs.declared.tag.Tag.{Tag};
 ghost use Rattle.st_core.specs.Core.{Term};
 ghost use Rattle.st_core.specs.Costs.{term_cost};
-ghost use Rattle.st_core.specs.Inner.Codes.{size_of};
+ghost use Rattle.st_core.specs.Codes.{size_of};
 ghost use Rattle.st_meaning.specs.Statements.{guarded, act_of, acts_of};
 ghost use Rattle.code_size.specs.Limits.{limited};
 ghost use Rattle.code_size.specs.Inner.Parts.{branch_in, element_in};

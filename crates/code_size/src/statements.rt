@@ -2,7 +2,7 @@
 
 ghost use Rattle.std.specs.Prelude.{◌≡◌, List};
 ghost use Rattle.st_tree.specs.declared.tag.Tag.{Tag};
-ghost use Rattle.st_core.specs.Inner.Codes.{size_of};
+ghost use Rattle.st_core.specs.Codes.{size_of};
 ghost use Rattle.st_meaning.specs.Statements.{assignment};
 ghost use Rattle.code_size.specs.Limits.{limited};
 ghost use Rattle.code_size.specs.Inner.Parts.{behind_else};

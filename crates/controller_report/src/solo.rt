@@ -13,7 +13,7 @@ use std::alloc::Global;
 use tri_base::{NoMemory, Text, push_bytes};
 
 /// Plays the one controller without faults, and adds its report. The engine is one over the
-/// script's points.
+/// script's points. Where memory fails, a part of it may stand there.
 pub fn write_solo<E: Engine>(
     alloc: Global,
     engine: &E,

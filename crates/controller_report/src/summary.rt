@@ -15,7 +15,7 @@ use std::alloc::Global;
 use tri_base::{NoMemory, Text};
 
 /// Plays the one controller without faults, and adds the summary of its run. The engine is one over
-/// the script's points.
+/// the script's points. Where memory fails, a part of it may stand there.
 pub fn write_solo_summary<E: Engine>(
     alloc: Global,
     engine: &E,

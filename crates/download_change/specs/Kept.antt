@@ -55,7 +55,7 @@ abbrev pub is_called : List ℕ → Option (List ℕ) → Bool
 is_called name None = false
 is_called name (Some heir) = bytes_eq name heir
 
--- The tag of the old program whose heir has this name.
+-- The first tag of the old program whose heir has this name.
 abbrev pub origin_of : (old : List Tag) → List Rename → List ℕ → Option PlacedTag
 origin_of old renames name = find (λ t. is_called name (heir_of renames t.name)) (placed_tags old)
 

@@ -24,8 +24,8 @@ pub fn carried_words_are_laid()
         (carried_words old new renames first_words words) }
 {}
 
-/// The numbers of a kept tag right behind the change point, under its heir's name, are those before
-/// it.
+/// Where the renames have no fault and no two tags one name, the numbers of a kept tag right behind
+/// the change point, under its heir's name, are those before it.
 pub fn kept_tags_keep_their_values()
     ensures { (old new : List Tag) (renames : List Rename) (env first : Environment)
         → AreApart old → renames_fault_of old new renames ≡ None
@@ -34,7 +34,8 @@ pub fn kept_tags_keep_their_values()
         ≡ number_of env t.name field) (placed_tags old) }
 {}
 
-/// The words of a kept tag likewise, at the addresses that it has in each of the two programs.
+/// The words of a kept tag likewise, at the addresses that it has in each of the two programs, where
+/// also the new program has no two tags of one name.
 pub fn kept_words_stay()
     ensures { (old new : List Tag) (renames : List Rename)
         → (env first : Environment) (words first_words : List ℤ)

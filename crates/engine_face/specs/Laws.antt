@@ -6,7 +6,8 @@ use Rattle.tri_base.specs.Downloads.{Download}
 use Rattle.tri_base.specs.Noted.{number_before, restored}
 use Rattle.chassis.specs.Points.{inputs_of, outputs_of}
 use Rattle.chassis.specs.Ranges.{IsWithin}
-use Rattle.engine_face.specs.declared.refusal.Refusal.TheVariants.{NoMemory}
+use Rattle.engine_face.specs.declared.refusal.Refusal.{Refusal}
+use Rattle.engine_face.specs.declared.refusal.Refusal.TheVariants.{RenameUnknown, RenameTwice, KindChanged, NoMemory}
 use Rattle.engine_face.specs.Meaning.{Meaning, Scanned, NamesKnown, changes}
 use Rattle.tri_base.specs.Limits.{scan_time_limit, text_limit, word_limit}
 
@@ -29,6 +30,14 @@ pub record IsScan (points : List Point) (before : List ℤ) (after : Scanned) (p
   pub outputs : AllZip IsWithin (outputs_of points) after.outputs
   pub stores : TellStores before after.words pairs
 
+-- A reason against a text by itself: none against a change alone, and not want of memory.
+abbrev pub IsOfText : Refusal → Type 0
+IsOfText (RenameUnknown name) = ⊥
+IsOfText (RenameTwice name) = ⊥
+IsOfText (KindChanged name) = ⊥
+IsOfText NoMemory = ⊥
+IsOfText refusal = Unit {0}
+
 -- The meaning of an engine over the points.
 pub record IsMeaning (points : List Point) (m : Meaning) : Type 0 where
   -- a text that builds has some bytes, and not too many
@@ -36,8 +45,8 @@ pub record IsMeaning (points : List Point) (m : Meaning) : Type 0 where
   pub short_text : (text : List ℕ) → m.builds text ≡ None → length text ≤ text_limit
   -- and no more words than a memory has
   pub few_words : (text : List ℕ) → m.builds text ≡ None → m.word_count text ≤ word_limit
-  -- want of memory is no part of the meaning
-  pub no_memory : (text : List ℕ) → m.builds text ≢ Some NoMemory
+  -- a text by itself is refused for what is wrong with a text
+  pub of_text : (text : List ℕ) (refusal : Refusal) → m.builds text ≡ Some refusal → IsOfText refusal
   -- the first words and the carried ones are as many as the program has
   pub first_count : (text : List ℕ) → m.builds text ≡ None → length (m.first text) ≡ m.word_count text
   pub carried_count : (old : List ℕ) (d : Download) (words : List ℤ) → m.builds old ≡ None → m.builds d.text ≡ None

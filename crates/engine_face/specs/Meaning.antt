@@ -31,7 +31,7 @@ pub record Meaning : Type 0 where
   pub carried : List ℕ → Download → List ℤ → List ℤ
   -- a scan of a program, from its words, the values of the input points and the scan time
   pub scanned : List ℕ → List ℤ → List ℤ → ℤ → Scanned
-  -- the addresses that this scan stores to, in order of the first store to each, with the numbers that stood there
+  -- the addresses that this scan may store to, each once, with the numbers that stood there
   pub stored : List ℕ → List ℤ → List ℤ → ℤ → List (ℕ × ℤ)
 
 -- The first of: what a text is refused for, a name that isn't found, a name twice, a changed kind.

@@ -1,3 +1,4 @@
 pub mod Facts
 pub mod Plays
 pub mod Quiet
+pub mod Blocks

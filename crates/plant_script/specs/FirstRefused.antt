@@ -24,8 +24,8 @@ with_lines lines [] = []
 with_lines [] (text ∷ texts) = (0, text) ∷ with_lines [] texts
 with_lines (line ∷ lines) (text ∷ texts) = (line, text) ∷ with_lines lines texts
 
--- The blocks that have to build, each with the line of its first word, counted from 1. A script that was made, not
--- read, knows no lines.
+-- The blocks that have to build, each with the line of its first word, counted from 1. A made script has that of its
+-- TEXT in its canonical text.
 abbrev pub blocks_of : ReadScript → List (ℕ × List ℕ)
 blocks_of s = (s.text_line, s.value.text) ∷ with_lines s.swap_lines (swap_texts s.value.moments)
 

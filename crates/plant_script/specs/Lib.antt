@@ -5,3 +5,4 @@ pub mod FirstRefused
 pub mod Inner
 pub mod Judging
 pub mod SingleTexts
+pub mod Laws

@@ -4,10 +4,13 @@
 
 mod countdown;
 mod faces;
+mod laws;
 mod refused;
 mod single_text;
 mod uncalm;
 
+pub use chassis::Chassis;
+pub use laws::refused_blocks_are_no_programs;
 pub use refused::first_refused;
 pub use script_text::{
     Act, Moment, ScanLine, Script, ScriptCause, ScriptFault, Setting, Tape, read_script,

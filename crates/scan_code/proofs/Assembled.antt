@@ -7,7 +7,7 @@ use Rattle.st_tree.specs.Nesting.{nesting_limit}
 use Rattle.st_tree.specs.TreeNesting.{body_nesting}
 use Rattle.st_core.specs.Core.{Act}
 use Rattle.st_core.specs.Memory.{Shape}
-use Rattle.st_core.specs.Inner.Codes.{size_of, act_code, body_code}
+use Rattle.st_core.specs.Codes.{size_of, act_code, body_code}
 use Rattle.st_core.specs.Compiled.{IsCodeOf}
 use Rattle.st_core.specs.Fits.{ActFits, IsSound}
 use Rattle.st_core.proofs.Compiled.{body_code_is}

@@ -8,7 +8,7 @@ use Rattle.st_tree.specs.declared.tag.Tag.{Tag}
 use Rattle.st_core.specs.Core.{Name, Term, Act}
 use Rattle.st_core.specs.Core as c
 use Rattle.st_core.specs.Memory.{Shape, address_of}
-use Rattle.st_core.specs.Inner.Codes.{term_code, act_code}
+use Rattle.st_core.specs.Codes.{term_code, act_code}
 use Rattle.st_meaning.specs.Types.{type_of, block_of, field_place, field_type}
 use Rattle.st_meaning.specs.Statements.{in_order}
 use Rattle.st_sound.specs.Shapes.{shape_in}

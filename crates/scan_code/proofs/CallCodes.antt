@@ -4,7 +4,7 @@ use Rattle.scan_machine.specs.declared.instructions.Instr.{Instr}
 use Rattle.scan_machine.specs.declared.instructions.Instr.TheVariants as i
 use Rattle.st_core.specs.Core.{Term}
 use Rattle.st_core.specs.Memory.{Shape}
-use Rattle.st_core.specs.Inner.Codes.{term_code, binary_instr, ternary_instr}
+use Rattle.st_core.specs.Codes.{term_code, binary_instr, ternary_instr}
 use Rattle.st_meaning.specs.Functions.{Operator, OneOperand, TwoOperands, ThreeOperands, combined}
 use Rattle.code_size.specs.Inner.Functions.{further}
 use Rattle.scan_code.specs.Inner.Operators.{operator_instr}

@@ -6,7 +6,7 @@ use Rattle.scan_machine.specs.declared.instructions.Instr.TheVariants as i
 use Rattle.st_core.specs.Core.{Term}
 use Rattle.st_core.specs.Core as c
 use Rattle.st_core.specs.Memory.{Shape}
-use Rattle.st_core.specs.Inner.Codes.{term_code}
+use Rattle.st_core.specs.Codes.{term_code}
 use Rattle.st_meaning.specs.Statements.{range_of, within, or_within}
 use Rattle.code_size.proofs.LabelCosts.{rows, rows_more}
 use Rattle.scan_code.proofs.RowCodes.{binary_code}

@@ -5,7 +5,7 @@ use Rattle.scan_machine.specs.declared.instructions.Instr.TheVariants as i
 use Rattle.st_core.specs.Core.{Act}
 use Rattle.st_core.specs.Costs.{term_cost}
 use Rattle.st_core.specs.Memory.{Shape}
-use Rattle.st_core.specs.Inner.Codes.{Spot, moved, term_code, act_code, size_of}
+use Rattle.st_core.specs.Codes.{Spot, moved, term_code, act_code, size_of}
 use Rattle.st_core.proofs.Runs.{act_length}
 use Rattle.st_core.proofs.Terms.{term_length}
 use Rattle.st_meaning.specs.Statements.{Guarded, in_order, choice}

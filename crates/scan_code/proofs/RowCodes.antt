@@ -7,7 +7,7 @@ use Rattle.scan_machine.specs.declared.instructions.Instr.{Instr}
 use Rattle.st_core.specs.Core.{UnaryOperator, BinaryOperator, Term}
 use Rattle.st_core.specs.Core as c
 use Rattle.st_core.specs.Memory.{Shape}
-use Rattle.st_core.specs.Inner.Codes.{unary_instr, binary_instr, term_code}
+use Rattle.st_core.specs.Codes.{unary_instr, binary_instr, term_code}
 use Rattle.st_meaning.specs.Expressions.{Elaborated, common, settled, compared}
 use Rattle.code_size.proofs.Rows.{taken_all}
 

@@ -9,7 +9,7 @@ use Rattle.st_core.specs.Core as c
 use Rattle.st_core.specs.Effects.{is_past}
 use Rattle.st_core.specs.Costs.{term_cost}
 use Rattle.st_core.specs.Memory.{Shape, address_of}
-use Rattle.st_core.specs.Inner.Codes.{inner, term_code, act_code, size_of, loop_code}
+use Rattle.st_core.specs.Codes.{inner, term_code, act_code, size_of, loop_code}
 use Rattle.st_core.proofs.Terms.{term_length}
 use Rattle.st_core.proofs.Loops.{written_past, written_more}
 use Rattle.st_meaning.specs.Types.{type_of, word_type, element_type, low_bound, high_bound}

@@ -5,7 +5,7 @@ use Rattle.scan_machine.specs.Codes.{CodeValue}
 use Rattle.st_tree.specs.declared.program.Tree.{Tree}
 use Rattle.st_tree.specs.Tags.{tags_of}
 use Rattle.st_core.specs.Compiled.{IsCodeOf}
-use Rattle.st_core.specs.Inner.Codes.{body_code}
+use Rattle.st_core.specs.Codes.{body_code}
 use Rattle.st_meaning.specs.Programs.{body_of, program_cost}
 use Rattle.tag_layout.specs.Layout.{total_words}
 use Rattle.st_sound.specs.Shapes.{shape_in}
@@ -20,8 +20,8 @@ pub record IsProgramCode (tree : Tree) (code : CodeValue) : Type 0 where
   pub does : IsCodeOf (shape_in (tags_of tree)) (body_of tree) code.list
   pub words : code.words ≡ total_words (tags_of tree)
 
--- A program has code where a scan of it costs no more than the limit, and else its cost is told. That memory fails says
--- nothing of the program.
+-- A program has code where a scan of it costs no more than the limit, and else its cost is told, or the greatest number
+-- that is told where that is less. That memory fails says nothing of the program.
 abbrev pub Compiles : Tree → Result CodeValue CodeFault → Type 0
 Compiles tree (Ok code) = IsProgramCode tree code × (program_cost tree ≤ cost_limit)
 Compiles tree (Err (TooLong cost)) =

@@ -6,7 +6,7 @@ ghost use Rattle.st_tree.specs.Nesting.{nesting_limit};
 ghost use Rattle.st_tree.specs.TreeNesting.{body_nesting};
 ghost use Rattle.st_core.specs.Compiled.{IsCodeOf};
 ghost use Rattle.st_core.specs.Fits.{ActFits, IsSound};
-ghost use Rattle.st_core.specs.Inner.Codes.{body_code};
+ghost use Rattle.st_core.specs.Codes.{body_code};
 ghost use Rattle.st_meaning.specs.Programs.{body_of};
 ghost use Rattle.st_meaning.specs.Statements.{acts_of};
 ghost use Rattle.tag_layout.specs.Layout.{total_words};

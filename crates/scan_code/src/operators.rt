@@ -1,7 +1,7 @@
 //! The instructions of operators.
 
 ghost use Rattle.std.specs.Prelude.{◌≡◌};
-ghost use Rattle.st_core.specs.Inner.Codes.{binary_instr};
+ghost use Rattle.st_core.specs.Codes.{binary_instr};
 ghost use Rattle.st_meaning.specs.Expressions.{equal_operator, compare_operator, add_operator, multiply_operator};
 
 use function_blocks::Kind;

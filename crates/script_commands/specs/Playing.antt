@@ -9,7 +9,7 @@ use Rattle.script_commands.specs.declared.script_command.Refused.{Refused}
 use Rattle.script_commands.specs.declared.script_command.Refused.TheVariants.{Block, NoMemory}
 use Rattle.script_commands.specs.Outputs.{output_of}
 
--- Its text where all blocks of the script build, or the first block that doesn't.
+-- Its text where the TEXT block and all SWAP blocks build, or the first of these that doesn't.
 abbrev pub IsPlayed : ScriptCommand → Meaning → ReadScript → Result TextValue Refused → Type 0
 IsPlayed command m script (Ok text) =
     (first_refused_of m script ≡ None) × (text.list ≡ output_of command m script.value)

@@ -25,7 +25,7 @@ pub enum ScriptCommand {
 /// Why nothing is written of a script.
 #[derive(Clone, Copy, Debug, PartialEq, Eq)]
 pub enum Refused {
-    /// A block of program text, the first in its order, is none.
+    /// The TEXT block or a SWAP block, the first in their order, is no program.
     Block {
         /// The line of the block's first word, from 1.
         line: u32,
@@ -37,8 +37,8 @@ pub enum Refused {
 }
 
 #[tactic(auto, using(crate::proofs::Firsts::text_builds))]
-/// What a command writes of a script, or the first of its blocks that the engine doesn't build. The
-/// engine is over the script's points.
+/// What a command writes of a script; or the first of its TEXT and SWAP blocks that the engine
+/// doesn't build. The engine is over the script's points.
 pub fn play<E: Engine>(
     alloc: Global,
     command: ScriptCommand,

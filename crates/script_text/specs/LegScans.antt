@@ -63,12 +63,12 @@ no_lines = reading_only first_time []
 abbrev pub unread : List Point → LegScan
 unread points = reading_only first_time (map (λ p. pos 0) (inputs_of points))
 
--- What READ lines show on a side.
+-- What READ and MUTE lines show on a side.
 abbrev pub shown_on : Side → LegScan → Option (List ℤ)
 shown_on Left l = l.shown_left
 shown_on Right l = l.shown_right
 
--- What RESULT lines put on a side.
+-- What RESULT and MUTE lines put on a side.
 abbrev pub result_on : Side → LegScan → Option (List ℤ)
 result_on Left l = l.result_left
 result_on Right l = l.result_right

@@ -35,7 +35,7 @@ pub enum ScanLine {
     Time(Triple<i64>),
     /// The text of the scan's download.
     Download(Block),
-    /// A leg puts nothing and drives nothing.
+    /// A leg puts packets without words, and a drive without words.
     Mute(Leg),
     /// A leg's word at an address gets a value.
     Poke(Leg, u32, i64),

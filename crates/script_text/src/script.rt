@@ -10,7 +10,7 @@ use script_lines::{Block, Legs};
 use std::marker::Model;
 use tri_base::{Leg, Name, Text};
 
-/// A script that was read.
+/// A script, with the lines of its words TEXT and SWAP.
 #[derive(Drop)]
 pub struct Script {
     pub(crate) chassis: Chassis,
@@ -79,7 +79,7 @@ impl Script {
         }
     }
 
-    /// The number of scans, 1 to 2,000.
+    /// The number of scans.
     pub fn scans(&self) -> u32
         ensures { result ≡ self.now.value.scans }
     {

@@ -53,7 +53,7 @@ impl Tape {
         self.scans
     }
 
-    /// The scan time in milliseconds, 1 to 10,000.
+    /// The scan time in milliseconds.
     pub fn time(&self, scan: u32) -> i64
         requires { (1 ≤ scan) × (scan ≤ length self.now.scans) }
         ensures { result ≡ (scan_at self.now scan).time }

@@ -1,3 +1,4 @@
 pub mod Controller
+pub mod Laws
 pub mod Inner
 pub mod Standing

@@ -2,7 +2,9 @@
 #![tactic(auto)]
 
 mod face;
+mod laws;
 mod processor;
 mod single;
 
+pub use laws::has_the_text;
 pub use single::{ScanOutcome, Single, start};

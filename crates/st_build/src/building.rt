@@ -18,6 +18,7 @@ use st_front::front;
 use st_tree::Typed;
 use std::alloc::Global;
 use tag_layout::Layout;
+use tag_wiring::Wiring;
 use tri_base::Text;
 
 /// The code of a program whose tags are laid out so.
@@ -36,6 +37,7 @@ fn compile_code(alloc: Global, typed: &Typed, layout: &Layout) -> Result<Code, R
 /// The program of a text whose tree is well typed and laid out so.
 fn finish_program(
     alloc: Global,
+    chassis: &Chassis,
     text: &Text,
     typed: Typed,
     layout: Layout,
@@ -45,8 +47,16 @@ fn finish_program(
     ensures { Finishes typed.tree text.now.list result }
 {
     let code = compile_code(alloc, &typed, &layout)?;
+    let Ok(wiring) = Wiring::of(alloc, chassis, &layout) else {
+        return Err(Refusal::NoMemory);
+    };
     match text.copy(alloc) {
-        Ok(text) => Ok(StProgram { text, layout, code }),
+        Ok(text) => Ok(StProgram {
+            text,
+            layout,
+            code,
+            wiring,
+        }),
         Err(_) => Err(Refusal::NoMemory),
     }
 }
@@ -61,7 +71,7 @@ pub(crate) fn build_program(
         Builds text_of (refusal_in (program_of chassis.now text.now.list)) text.now.list result }
 {
     match front(alloc, chassis, text) {
-        Ok((typed, layout)) => finish_program(alloc, text, typed, layout),
+        Ok((typed, layout)) => finish_program(alloc, chassis, text, typed, layout),
         Err(refusal) => Err(refusal),
     }
 }

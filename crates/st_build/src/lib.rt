@@ -10,5 +10,8 @@ mod program;
 mod scanning;
 
 pub use engine::StEngine;
-pub use laws::{each_text_is_judged, scans_are_runs};
+pub use laws::{
+    each_text_is_judged, outputs_are_of_words, programs_hold_values, scans_are_runs,
+    words_hold_values,
+};
 pub use program::StProgram;

@@ -1,4 +1,4 @@
-ghost use Rattle.std.specs.Prelude.{◌≡◌, None};
+ghost use Rattle.std.specs.Prelude.{◌≡◌, None, IfSome};
 ghost use Rattle.st_build.specs.Building.{program_of, refusal_in, tags_at};
 ghost use Rattle.st_build.specs.Inner.Kept.{IsKept};
 
@@ -6,25 +6,31 @@ use chassis::Chassis;
 use scan_machine::Code;
 use std::marker::Model;
 use tag_layout::Layout;
+use tag_wiring::Wiring;
 use tri_base::Text;
 
-/// A program that was built: its text, the layout of its tags and its code.
+/// A program that was built: its text, the layout of its tags, its code, and which words stand for
+/// the points that it was built over.
 #[derive(Drop)]
 pub struct StProgram {
     pub(crate) text: Text,
     pub(crate) layout: Layout,
     pub(crate) code: Code,
+    pub(crate) wiring: Wiring,
 }
 
 impl Model for StProgram {
+    ghost use Rattle.std.specs.Prelude.{◌≡◌};
     ghost use Rattle.st_build.specs.Inner.Kept.{KeptProgram, IsKept};
 
     ghost Value = { KeptProgram };
 
     ghost view = { λ p. record { text = p.text.list; tags = p.layout; code = p.code } };
 
-    ghost invariant = { λ p.
-        IsKept (record { text = p.text.list; tags = p.layout; code = p.code }) };
+    ghost invariant = { λ p. record {
+      kept : IsKept (record { text = p.text.list; tags = p.layout; code = p.code });
+      wired : p.wiring.tags ≡ p.layout;
+    } };
 }
 
 impl StProgram {
@@ -41,6 +47,18 @@ impl StProgram {
         ensures kept { IsKept self.now }
     {
         &self.layout
+    }
+
+    /// Lends the wiring, if it is one to the points of a chassis.
+    pub(crate) fn wiring_to(&self, chassis: &Chassis) -> Option<&Wiring>
+        ensures { IfSome result (λ wiring.
+            wiring.now ≡ record { points = chassis.now; tags = self.now.tags }) }
+    {
+        if self.wiring.is_over(chassis) {
+            Some(&self.wiring)
+        } else {
+            None
+        }
     }
 
     /// Lends the code.

@@ -1,6 +1,6 @@
 //! Scans of programs.
 
-ghost use Rattle.std.specs.Prelude.{◌≡◌, ◌<◌, ◌≤◌, ◌≤ℤ◌, pos, length, None};
+ghost use Rattle.std.specs.Prelude.{◌≡◌, ◌<◌, ◌≤◌, ◌≤ℤ◌, pos, length, None, IfSome};
 ghost use Rattle.std.specs.List.{All};
 ghost use Rattle.tri_base.specs.Limits.{scan_time_limit};
 ghost use Rattle.tri_base.specs.Noted.{restored};
@@ -9,7 +9,7 @@ ghost use Rattle.chassis.specs.Points.{inputs_of, outputs_of};
 ghost use Rattle.tag_layout.specs.Layout.{total_words};
 ghost use Rattle.scan_machine.specs.Machine as machine;
 ghost use Rattle.scan_machine.specs.Machine.{Memory, Ran};
-ghost use Rattle.tag_wiring.specs.PointWords.{inputs_set, input_stores, outputs_from};
+ghost use Rattle.tag_wiring.specs.PointWords.{AreDeclared, inputs_set, input_stores, outputs_from};
 ghost use Rattle.st_build.specs.Building.{program_of, refusal_in, tags_at};
 ghost use Rattle.st_build.specs.Running.{running, scanned_by, stored_by};
 
@@ -18,7 +18,8 @@ use chassis::Chassis;
 use scan_machine::{Code, Steps, run};
 use std::marker::Brand;
 use std::sync::ledger::{Blank, Ledger};
-use tag_wiring::by_name::{set_inputs, take_outputs};
+use tag_layout::Layout;
+use tag_wiring::{Wiring, by_name};
 use tri_base::{Touched, Words};
 
 /// Runs code. Its instructions are counted in a ledger that is dropped.
@@ -82,10 +83,59 @@ fn run_scan(
     ensures outputs_room { KeepsRoom outputs.old outputs.new }
 {
     let layout = program.layout();
-    set_inputs(chassis, layout, inputs, words, touched);
+    let wiring = program.wiring_to(chassis);
+    set_inputs(chassis, layout, wiring, inputs, words, touched);
     let flag = run_counted::<Brand>(Blank::new(1), program.code(), words, dt, touched);
-    take_outputs(chassis, layout, words.items(), outputs);
+    take_outputs(chassis, layout, wiring, words.items(), outputs);
     flag
+}
+
+/// Sets the words of the declared input tags, by the wiring where there is one.
+fn set_inputs(
+    chassis: &Chassis,
+    layout: &Layout,
+    wiring: Option<&Wiring>,
+    inputs: &[i64],
+    words: &mut Words,
+    touched: &mut Touched,
+)
+    requires declared { AreDeclared layout.now }
+    requires wired { IfSome wiring (λ w.
+        w.now ≡ record { points = chassis.now; tags = layout.now }) }
+    requires inputs { length inputs.now ≡ length (inputs_of chassis.now) }
+    requires words { length words.old.list ≡ total_words layout.now }
+    requires touched { total_words layout.now ≤ touched.old.size }
+    ensures words { words.new.list ≡ inputs_set chassis.now layout.now inputs.now words.old.list }
+    ensures room { words.new.spare ≡ words.old.spare }
+    ensures touched { touched.new.pairs ≡ input_stores chassis.now layout.now words.old.list }
+    ensures size { touched.new.size ≡ touched.old.size }
+{
+    match wiring {
+        Some(wiring) => wiring.set_inputs(inputs, words, touched),
+        None => by_name::set_inputs(chassis, layout, inputs, words, touched),
+    }
+}
+
+/// Takes the outputs from the words, by the wiring where there is one.
+fn take_outputs(
+    chassis: &Chassis,
+    layout: &Layout,
+    wiring: Option<&Wiring>,
+    words: &[i64],
+    outputs: &mut Words,
+)
+    requires declared { AreDeclared layout.now }
+    requires wired { IfSome wiring (λ w.
+        w.now ≡ record { points = chassis.now; tags = layout.now }) }
+    requires words { length words.now ≡ total_words layout.now }
+    requires room { HasRoom (length (outputs_of chassis.now)) outputs.old }
+    ensures list { outputs.new.list ≡ outputs_from chassis.now layout.now words.now }
+    ensures room { KeepsRoom outputs.old outputs.new }
+{
+    match wiring {
+        Some(wiring) => wiring.take_outputs(words, outputs),
+        None => by_name::take_outputs(chassis, layout, words, outputs),
+    }
 }
 
 /// A scan of what is a program over the points of a chassis.

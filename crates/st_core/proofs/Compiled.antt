@@ -8,7 +8,7 @@ use Rattle.st_core.specs.Effects.{Ends, Onward, Exits, Returns, effect_of}
 use Rattle.st_core.specs.Memory.{Shape, total_of, shape_of, words_of}
 use Rattle.st_core.specs.Fits.{ActFits}
 use Rattle.st_core.specs.Compiled.{DoesBody, IsCodeOf, HasCode}
-use Rattle.st_core.specs.Inner.Codes.{Spot, lands, size_of, body_code}
+use Rattle.st_core.specs.Codes.{Spot, lands, size_of, body_code}
 use Rattle.st_core.proofs.Places.{has_all}
 use Rattle.st_core.proofs.Goes.{here}
 use Rattle.st_core.proofs.Runs.{act_length, act_goes}

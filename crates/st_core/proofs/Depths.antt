@@ -12,7 +12,7 @@ use Rattle.st_core.specs.Core as c
 use Rattle.st_core.specs.Effects.{written}
 use Rattle.st_core.specs.Costs.{term_cost}
 use Rattle.st_core.specs.Memory.{Shape, address_of}
-use Rattle.st_core.specs.Inner.Codes.{Spot, moved, inner, unary_instr, binary_instr, ternary_instr, term_code, act_code, size_of, loop_code}
+use Rattle.st_core.specs.Codes.{Spot, moved, inner, unary_instr, binary_instr, ternary_instr, term_code, act_code, size_of, loop_code}
 use Rattle.st_core.proofs.Places.{HasAt, first_at, rest_at}
 
 -- an operator takes so many and gives one

@@ -10,7 +10,7 @@ use Rattle.st_core.specs.Terms.{value_of}
 use Rattle.st_core.specs.Effects.{Ends, Onward, Exits, Returns, Effect, then_by, turn_by, turns, effect_of, written}
 use Rattle.st_core.specs.Memory.{Shape, shape_of, count_of}
 use Rattle.st_core.specs.Fits.{IsFree, ActFits}
-use Rattle.st_core.specs.Inner.Codes.{IsOpen}
+use Rattle.st_core.specs.Codes.{IsOpen}
 use Rattle.st_core.proofs.Laid.{shape_kept, number_shape, count_is, fields_other}
 
 pub free_apart : (n m : Name) (loops : List Name) → IsFree n loops → IsOpen m loops → m ≢ n

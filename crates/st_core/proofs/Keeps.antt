@@ -18,7 +18,7 @@ use Rattle.st_core.specs.Effects.{written}
 use Rattle.st_core.specs.Costs.{term_cost}
 use Rattle.st_core.specs.Memory.{Shape, address_of, count_of, total_of}
 use Rattle.st_core.specs.Fits.{OperatorFits, TermFits, ActFits, HasArray, LoopFits, height_of}
-use Rattle.st_core.specs.Inner.Codes.{Spot, moved, inner, unary_instr, binary_instr, ternary_instr, term_code, act_code, size_of, loop_code, IsOpen}
+use Rattle.st_core.specs.Codes.{Spot, moved, inner, unary_instr, binary_instr, ternary_instr, term_code, act_code, size_of, loop_code, IsOpen}
 use Rattle.st_core.proofs.Laid.{address_within, addresses_apart, some_fields}
 use Rattle.st_core.proofs.Places.{AllAt, HasAt, all_front, all_back, all_join, first_at, rest_at, none_at, cons_at, all_lookup, has_within, has_all}
 use Rattle.st_core.proofs.Terms.{term_length}

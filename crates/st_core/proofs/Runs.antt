@@ -22,7 +22,7 @@ use Rattle.st_core.specs.Effects.{Ends, Onward, Exits, Returns, Effect, onward, 
 use Rattle.st_core.specs.Costs.{term_cost, cost_of, loop_cost}
 use Rattle.st_core.specs.Memory.{Shape, shape_of, words_of, address_of, count_of}
 use Rattle.st_core.specs.Fits.{TermFits, ActFits, LoopFits}
-use Rattle.st_core.specs.Inner.Codes.{Spot, moved, inner, lands, term_code, act_code, size_of, loop_size, loop_code, IsOpen}
+use Rattle.st_core.specs.Codes.{Spot, moved, inner, lands, term_code, act_code, size_of, loop_size, loop_code, IsOpen}
 use Rattle.st_core.proofs.Laid.{parts, word_is, word_set, number_shape, number_own, count_is}
 use Rattle.st_core.proofs.Places.{HasAt, all_front, all_back, first_at, rest_at}
 use Rattle.st_core.proofs.Goes.{here, Goes, goes_none, goes_one, goes_then, goes_to, goes_more}

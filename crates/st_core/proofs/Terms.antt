@@ -14,7 +14,7 @@ use Rattle.st_core.specs.Terms.{value_of, unary, binary, ternary}
 use Rattle.st_core.specs.Costs.{term_cost}
 use Rattle.st_core.specs.Memory.{Shape, address_of, count_of, shape_of, words_of}
 use Rattle.st_core.specs.Fits.{TermFits}
-use Rattle.st_core.specs.Inner.Codes.{unary_instr, binary_instr, ternary_instr, term_code}
+use Rattle.st_core.specs.Codes.{unary_instr, binary_instr, ternary_instr, term_code}
 use Rattle.st_core.proofs.Laid.{word_is}
 use Rattle.st_core.proofs.Places.{HasAt, all_front, all_back, first_at}
 use Rattle.st_core.proofs.Goes.{here, Goes, goes_one, goes_then, goes_to}

@@ -13,4 +13,4 @@ pub mod Memory
 pub mod Fits
 pub mod Compiled
 pub mod Laws
-pub mod Inner
+pub mod Codes

@@ -40,7 +40,7 @@ pub record NestsTooDeep (text : List ℕ) (token : ℕ) : Type 0 where
   pub has : HasTokens text tokens
   pub deep : first_too_deep tokens ≡ Some token
 
--- No program goes on with this one of the text's tokens.
+-- No program goes on with this one of the text's tokens; it is their number where they end too early.
 pub record IsBroken (text : List ℕ) (token : ℕ) : Type 0 where
   pub tokens : List Token
   pub has : HasTokens text tokens

@@ -1,12 +1,12 @@
 -- What is looked up anew, one element further and at the end.
-use Rattle.std.proofs.Common.{◌≡◌, ◌≢◌, ℕ, suc, ◌<◌, ◌≤◌, ◌+◌, ℤ, pos, Bool, true, false, not, ◌&&◌, ◌==◌, cond, if◌then◌else◌, List, [], ◌∷◌, ◌++◌, length, get_or, map, take, drop, Option, Some, None, arith, refl, sym, ap, ◌∙◌, subst, ne_eqb, append-nil, append_assoc, add-one, drop-cons, drop-drop, length-append, length-drop}
-use Rattle.std.specs.Prelude.{filter, fold, zip, slice_index_or, slice_set}
+use Rattle.std.proofs.Common.{◌≡◌, ◌≢◌, ℕ, suc, ◌<◌, ◌≤◌, ◌+◌, ℤ, pos, Bool, true, false, ◌==◌, cond, if◌then◌else◌, List, [], ◌∷◌, ◌++◌, length, get_or, map, take, drop, Some, None, arith, refl, sym, ap, ◌∙◌, ne_eqb, append-nil, append_assoc, add-one, drop-cons, drop-drop, length-append, length-drop}
+use Rattle.std.specs.Prelude.{fold, slice_index_or, slice_set}
 use Rattle.std.specs.List.{All, AllPairs}
 use Rattle.std.proofs.lemmas.Option.{none-some}
-use Rattle.std.proofs.lemmas.List.{map-append, drop_all}
+use Rattle.std.proofs.lemmas.List.{drop_all}
 use Rattle.std.proofs.lemmas.List.Elements.{filter-append, All-head, All-tail}
 use Rattle.tri_base.specs.declared.point.Point.{Point}
-use Rattle.tri_base.specs.Noted.{number_before, noted}
+use Rattle.tri_base.specs.Noted.{number_before}
 use Rattle.tri_base.proofs.Places.{noted-first}
 use Rattle.chassis.specs.Points.{is_input_kind, inputs_of}
 use Rattle.st_tree.specs.declared.tag.Tag.{Tag}

@@ -7,6 +7,7 @@ mod inputs;
 pub mod laws;
 mod names;
 mod outputs;
+mod points;
 mod tables;
 mod wiring;
 

@@ -1,4 +1,4 @@
-ghost use Rattle.std.specs.Prelude.{◌≡◌, ◌≤◌, length, IfOk};
+ghost use Rattle.std.specs.Prelude.{◌≡◌, ◌≤◌, ◌↔◌, length, IfOk, IsTrue};
 ghost use Rattle.tri_base.specs.Rows.{HasRoom, KeepsRoom};
 ghost use Rattle.chassis.specs.Points.{inputs_of, outputs_of};
 ghost use Rattle.tag_layout.specs.Layout.{total_words};
@@ -6,20 +6,22 @@ ghost use Rattle.tag_wiring.specs.PointWords.{AreDeclared, inputs_set, input_sto
 
 use crate::inputs::{note_words, set_words};
 use crate::outputs::{OutputWire, take_words};
+use crate::points::are_same;
 use crate::tables::{input_addresses, output_wires, told_addresses};
 use chassis::Chassis;
 use std::alloc::Global;
 use std::marker::Model;
 use std::snapshot::Snapshot;
 use tag_layout::Layout;
-use tri_base::{NoMemory, Touched, Words};
+use tri_base::{NoMemory, Point, Touched, Words};
 
 /// Which words of a program's memory stand for the points of a chassis. It stands for the points
 /// and the tags that the program declares.
 #[derive(Drop)]
 pub struct Wiring {
-    // What the addresses were looked up for. A snapshot has no bytes.
-    points: Snapshot<Chassis>,
+    // The points that the addresses were looked up for.
+    points: Vec<Point>,
+    // And the tags. A snapshot has no bytes.
     tags: Snapshot<Layout>,
     // For each input point the address of its tag, if it is declared.
     inputs: Vec<Option<usize>>,
@@ -36,7 +38,7 @@ impl Model for Wiring {
 
     ghost use Rattle.tag_wiring.specs.Inner.Kept.{IsKept};
 
-    ghost view = { λ s. record { points = s.points.value; tags = s.tags.value } };
+    ghost view = { λ s. record { points = s.points.items; tags = s.tags.value } };
 
     ghost invariant = { IsKept };
 }
@@ -47,16 +49,26 @@ impl Wiring {
         requires { AreDeclared layout.now }
         ensures { IfOk result (λ w. w ≡ record { points = chassis.now; tags = layout.now }) }
     {
-        let inputs = input_addresses(alloc, chassis.points(), layout)?;
+        let Ok(points) = Vec::from_slice(alloc, chassis.points()) else {
+            return Err(NoMemory);
+        };
+        let inputs = input_addresses(alloc, points.as_slice(), layout)?;
         let told = told_addresses(alloc, chassis, layout)?;
-        let outputs = output_wires(alloc, chassis.points(), layout)?;
+        let outputs = output_wires(alloc, points.as_slice(), layout)?;
         Ok(Wiring {
-            points: Snapshot::of(chassis),
+            points,
             tags: Snapshot::of(layout),
             inputs,
             told,
             outputs,
         })
+    }
+
+    /// Whether these are the points of a chassis. It compares them one by one.
+    pub fn is_over(&self, chassis: &Chassis) -> bool
+        ensures { IsTrue result ↔ (self.now.points ≡ chassis.now) }
+    {
+        are_same(self.points.as_slice(), chassis.points())
     }
 
     /// Sets the word of each declared input tag to the value of its point, and tells the stores in

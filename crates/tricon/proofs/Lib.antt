@@ -1,13 +1,5 @@
-pub mod SmallScan
-pub mod SmallPieces
-pub mod SmallNames
-pub mod SmallTags
-pub mod SmallPoints
-pub mod SmallReads
-pub mod SmallLaws
-pub mod SmallKnown
-pub mod SmallWiring
-pub mod Voting
-pub mod SoloScans
-pub mod Joined
-pub mod Runs
+mod Spelled
+mod Runs
+mod Complete
+mod Words
+mod Joined

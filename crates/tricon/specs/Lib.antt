@@ -1,8 +1,5 @@
-pub mod SmallProgram
-pub mod SmallMeaning
-pub mod VotedInputs
-pub mod SingleController
-pub mod SoloReport
+pub mod Commands
 pub mod Statuses
-pub mod SoloRun
+pub mod CommandRuns
+pub mod Readings
 pub mod Inner

@@ -1,10 +1,15 @@
 -- The statuses with which a command ends: their numbers and lines. Own rule.
 use Rattle.std.specs.Prelude.{ℕ, pos, List, [], ◌++◌, codes}
 use Rattle.std.specs.Fmt.{signed_decimal}
+use Rattle.chassis.specs.declared.points.ChassisFault.{ChassisFault}
+use Rattle.chassis.specs.declared.points.ChassisFault.TheVariants as point
+use Rattle.script_text.specs.declared.fault.ScriptCause.{ScriptCause}
+use Rattle.script_text.specs.declared.fault.ScriptCause.TheVariants as script
+use Rattle.report_lines.specs.Refusals.{refusal_text}
 use Rattle.tricon.specs.declared.status.Status.{Status}
 use Rattle.tricon.specs.declared.status.Status.TheVariants.{Done, Usage, Refused, ReadFault, WriteFault, NoMemory, ScriptTooLong}
 use Rattle.tricon.specs.declared.status.RefusedCause.{RefusedCause}
-use Rattle.tricon.specs.declared.status.RefusedCause.TheVariants.{NoScript, NoProgram}
+use Rattle.tricon.specs.declared.status.RefusedCause.TheVariants.{Script, Program}
 
 -- The number with which the program ends.
 abbrev pub status_number : Status → ℕ
@@ -16,17 +21,39 @@ status_number WriteFault = 4
 status_number NoMemory = 5
 status_number ScriptTooLong = 7
 
--- The end of a refusal's line.
+-- Why the chassis can't have a point. No script is refused for want of memory.
+abbrev pub chassis_fault_text : ChassisFault → List ℕ
+chassis_fault_text point.BadRange = codes "CHASSIS RANGE"
+chassis_fault_text (point.Twice name) = codes "CHASSIS TWICE " ++ name
+chassis_fault_text point.Full = codes "CHASSIS FULL"
+chassis_fault_text point.NoMemory = []
+
+-- Which rule of scripts a line breaks.
+abbrev pub script_cause_text : ScriptCause → List ℕ
+script_cause_text script.Word = codes "WORD"
+script_cause_text script.Form = codes "FORM"
+script_cause_text (script.Chassis fault) = chassis_fault_text fault
+script_cause_text script.Order = codes "ORDER"
+script_cause_text script.Point = codes "POINT"
+script_cause_text script.Range = codes "RANGE"
+script_cause_text script.Second = codes "SECOND"
+script_cause_text script.End = codes "END"
+
+-- Why a script is refused.
 abbrev pub cause_text : RefusedCause → List ℕ
-cause_text NoScript = codes "NOSCRIPT\n"
-cause_text NoProgram = codes "NOPROGRAM\n"
+cause_text (Script cause) = script_cause_text cause
+cause_text (Program refusal) = codes "PROGRAM " ++ refusal_text refusal
+
+-- The line of a refused script.
+abbrev pub refused_text : ℕ → RefusedCause → List ℕ
+refused_text line cause =
+    codes "refused: line " ++ (signed_decimal (pos line) ++ (codes ": " ++ (cause_text cause ++ codes "\n")))
 
 -- The line that tells a status; none where all went well.
 abbrev pub status_text : Status → List ℕ
 status_text Done = []
 status_text Usage = codes "usage: tricon play [summary] | solo [summary] | step | check | make NUMBER SCANS\n"
-status_text (Refused line cause) =
-    codes "refused: line " ++ (signed_decimal (pos line) ++ (codes ": " ++ cause_text cause))
+status_text (Refused line cause) = refused_text line cause
 status_text ReadFault = codes "read fault\n"
 status_text WriteFault = codes "write fault\n"
 status_text NoMemory = codes "no memory\n"

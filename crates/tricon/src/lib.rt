@@ -1,14 +1,14 @@
-//! The commands of the controller.
+//! The commands of the controller: its words, what each reads and writes, and how it ends.
 #![tactic(auto)]
 
+mod cause;
+mod command;
 mod commands;
-mod report;
-mod small;
-mod solo;
 mod status;
 
+pub use command::Command;
 pub use commands::desk;
-pub use small::laws::one_program;
+pub use plant_script::ScriptCause;
 pub use status::{RefusedCause, Status, status_line};
 
 #[cfg(test)]

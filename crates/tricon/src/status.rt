@@ -1,17 +1,20 @@
 ghost use Rattle.std.specs.Prelude.{◌≡◌, ◌++◌, OnOk, OnErr};
 ghost use Rattle.tri_base.specs.Rows.{KeepsRoom};
-ghost use Rattle.tricon.specs.Statuses.{status_number, status_text, cause_text};
+ghost use Rattle.tricon.specs.Statuses.{status_number, status_text, refused_text};
 
+use crate::cause::push_cause;
+use engine_face::Refusal;
+use plant_script::ScriptCause;
 use std::alloc::Global;
 use tri_base::{NoMemory, Text, push_bytes, push_number};
 
 /// Why a script was refused.
 #[derive(Clone, Copy, Debug, PartialEq, Eq)]
 pub enum RefusedCause {
-    /// The bytes spell no script.
-    NoScript,
-    /// They spell one, but its TEXT is no program.
-    NoProgram,
+    /// The line is the first that no script has there.
+    Script(ScriptCause),
+    /// The block of program text that begins in the line is the first that is no program.
+    Program(Refusal),
 }
 
 /// How a command ends.
@@ -21,8 +24,13 @@ pub enum Status {
     Done,
     /// The words are no command.
     Usage,
-    /// The script is refused. The line is 0: it isn't told yet.
-    Refused { line: u32, cause: RefusedCause },
+    /// The script is refused.
+    Refused {
+        /// The line, from 1.
+        line: u32,
+        /// Why it is refused.
+        cause: RefusedCause,
+    },
     /// The source failed.
     ReadFault,
     /// The sink failed.
@@ -35,8 +43,8 @@ pub enum Status {
 
 impl Status {
     /// The number with which the program ends.
-    pub fn number(self) -> u8
-        ensures { result ≡ status_number self }
+    pub fn number(&self) -> u8
+        ensures { result ≡ status_number self.now }
     {
         match self {
             Status::Done => 0,
@@ -63,7 +71,7 @@ pub fn status_line(alloc: Global, status: &Status, text: &mut Text) -> Result<()
             text,
             b"usage: tricon play [summary] | solo [summary] | step | check | make NUMBER SCANS\n",
         ),
-        Status::Refused { line, cause } => push_refusal(alloc, *line, *cause, text),
+        Status::Refused { line, cause } => push_refused(alloc, *line, cause, text),
         Status::ReadFault => push_bytes(text, b"read fault\n"),
         Status::WriteFault => push_bytes(text, b"write fault\n"),
         Status::NoMemory => push_bytes(text, b"no memory\n"),
@@ -71,14 +79,14 @@ pub fn status_line(alloc: Global, status: &Status, text: &mut Text) -> Result<()
     }
 }
 
-fn push_refusal(
+/// Adds the line of a refused script, all of it or nothing.
+fn push_refused(
     alloc: Global,
     line: u32,
-    cause: RefusedCause,
+    cause: &RefusedCause,
     text: &mut Text,
 ) -> Result<(), NoMemory>
-    ensures line { OnOk result
-        (text.new.list ≡ text.old.list ++ status_text (Status.Refused line cause)) }
+    ensures line { OnOk result (text.new.list ≡ text.old.list ++ refused_text line cause.now) }
     ensures room { KeepsRoom text.old text.new }
     ensures refused { OnErr result (text.new ≡ text.old) }
 {
@@ -87,15 +95,6 @@ fn push_refusal(
     push_number(&mut whole, line as i64)?;
     push_bytes(&mut whole, b": ")?;
     push_cause(cause, &mut whole)?;
+    push_bytes(&mut whole, b"\n")?;
     push_bytes(text, whole.bytes())
-}
-
-fn push_cause(cause: RefusedCause, text: &mut Text) -> Result<(), NoMemory>
-    ensures line { OnOk result (text.new.list ≡ text.old.list ++ cause_text cause) }
-    ensures room { KeepsRoom text.old text.new }
-{
-    match cause {
-        RefusedCause::NoScript => push_bytes(text, b"NOSCRIPT\n"),
-        RefusedCause::NoProgram => push_bytes(text, b"NOPROGRAM\n"),
-    }
 }

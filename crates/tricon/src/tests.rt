@@ -1,44 +1,39 @@
 use super::*;
+use chassis::ChassisFault;
+use engine_face::Refusal;
 use std::alloc::Global;
 use std::test::Fail;
-use tri_base::{NoMemory, Text, push_bytes};
+use tri_base::{Name, NoMemory, Text, TypeCause, TypeFault, push_bytes};
 use tri_io::{MemorySink, MemorySource};
 
-// A script up to the program's assignments, and what stands behind them.
-const HEAD: &str = "TRICON 1\nPOINT DI START\nPOINT DO PUMP\nTEXT\nPROGRAM P\n\
-    VAR_EXTERNAL START, PUMP : BOOL; END_VAR\n";
+// A pump that counts its starts. In scan 2 its program is changed; in scan 3 the change is refused.
+const SCRIPT: &str = "TRICON 1\nPOINT DI START\nPOINT DO PUMP\nPOINT AO SHOWN 0 9\nTEXT\n\
+    PROGRAM P\nVAR_EXTERNAL START, PUMP : BOOL; SHOWN : INT; END_VAR\n\
+    VAR N : INT; UP : R_TRIG; END_VAR\n\
+    UP(CLK := START);\nIF UP.Q THEN N := N + 1; END_IF;\nPUMP := START;\nSHOWN := N * 4;\n\
+    END_PROGRAM\nENDTEXT\nSCANS 3\n\
+    AT 1\nSET START 1 1 0\n\
+    AT 2\nSET START 0\nDOWNLOAD\n\
+    PROGRAM P\nVAR_EXTERNAL PUMP : BOOL; END_VAR\nVAR COUNT : INT; END_VAR\n\
+    COUNT := COUNT * 32767;\nPUMP := COUNT > 1;\nEND_PROGRAM\nENDTEXT\nRENAME N COUNT\n\
+    AT 3\nDOWNLOAD\nPROGRAM P\nEND_PROGRAM;\nENDTEXT\nEND\n";
 
-const TAIL: &str = "END_PROGRAM\nENDTEXT\nSCANS 1\nAT 1\nSET START 1 1 0\nEND\n";
+const REPORT: &str = "TRICON SOLO 1\n\
+    SCAN 1\nIN 100 1\nOUT 1 4\nARITH 0\n\
+    SCAN 2\nVERDICT ACCEPTED\nIN 100 0\nOUT 1 0\nARITH 0\n\
+    SCAN 3\nVERDICT REFUSED SYNTAX 3\nIN 100 0\nOUT 1 0\nARITH 1\n\
+    FINAL 1 1 32767\nEND\n";
 
-const REPORT: &str = "TRICON SOLO 1\nSCAN 1\nIN 100 1\nOUT 1\nARITH 0\nFINAL 0 1 1\nEND\n";
-
-// The lamp shows what the pump did a scan before. The horn is no part of the program.
-const SHIFT: &str = "TRICON 1\n\
-    # a comment\n\
-    POINT DI START\nPOINT DO LAMP\nPOINT DI STOP\nPOINT DO PUMP\nPOINT DO HORN\n\
-    TEXT\nPROGRAM SHIFT\nVAR_EXTERNAL START, PUMP, LAMP : BOOL; END_VAR\n\
-    LAMP := PUMP;\nPUMP := START;\nPUMP := PUMP;\nEND_PROGRAM\nENDTEXT\n\
-    SCANS 3\nAT 1\nSET START 1 0 1\nSET STOP 0 1 0\nAT 2\nSET START 0 0 1\nSET STOP 1\n\
-    AT 3\nSET START 1\nEND\n";
-
-const SHIFT_REPORT: &str = "TRICON SOLO 1\n\
-    SCAN 1\nIN 100 1 0\nOUT 0 1 0\nARITH 0\n\
-    SCAN 2\nIN 100 0 1\nOUT 1 0 0\nARITH 0\n\
-    SCAN 3\nIN 100 1 1\nOUT 0 1 0\nARITH 0\n\
-    FINAL 0 1 1 0\nEND\n";
-
-fn text_of(alloc: Global, parts: &[&str]) -> Result<Text, NoMemory> {
+fn text_of(alloc: Global, bytes: &str) -> Result<Text, NoMemory> {
     let mut text = Text::new(alloc);
-    for part in parts {
-        push_bytes(&mut text, part.as_bytes())?;
-    }
+    push_bytes(&mut text, bytes.as_bytes())?;
     Ok(text)
 }
 
 fn words_of(alloc: Global, words: &[&str]) -> Result<Vec<Text>, Fail> {
     let mut texts = Vec::new(alloc);
     for word in words {
-        texts.push(text_of(alloc, &[*word])?)?;
+        texts.push(text_of(alloc, word)?)?;
     }
     Ok(texts)
 }
@@ -48,44 +43,59 @@ fn words_of(alloc: Global, words: &[&str]) -> Result<Vec<Text>, Fail> {
 fn run(
     alloc: Global,
     words: &[&str],
-    script: Text,
+    script: &str,
     failing: (u64, u64),
 ) -> Result<(Status, MemorySink), Fail> {
     let words = words_of(alloc, words)?;
-    let mut source = MemorySource::new(script, 16, vec![in alloc; failing.0]?);
+    let mut source = MemorySource::new(text_of(alloc, script)?, 16, vec![in alloc; failing.0]?);
     let mut sink = MemorySink::new(alloc, 16, vec![in alloc; failing.1]?);
-    sink.reserve(1000)?;
+    sink.reserve(100_000)?;
     let status = desk(alloc, words.as_slice(), &mut source, &mut sink);
     Ok((status, sink))
 }
 
 #[test]
-fn the_one_controller_is_reported_scan_by_scan(rt: HostRuntime) -> Result<(), Fail> {
-    for (script, report) in [
-        ([HEAD, "PUMP := START;\n", TAIL], REPORT),
-        ([SHIFT, "", ""], SHIFT_REPORT),
-    ] {
-        let script = text_of(rt.alloc(), script.as_slice())?;
-        let (status, sink) = run(rt.alloc(), &["solo"], script, (0, 0))?;
-        assert_eq!(rt; status, Status::Done);
-        assert_eq!(rt; sink.bytes(), report.as_bytes());
+fn a_script_is_played_and_checked(rt: HostRuntime) -> Result<(), Fail> {
+    let rows: [(&[&str], &str); 3] = [
+        (&["solo"], REPORT),
+        (
+            &["solo", "summary"],
+            "TRICON SUMMARY 1\nSCANS 3\nSUM 7\nEND\n",
+        ),
+        (
+            &["check"],
+            "TRICON CHECK 1\nPROGRAM 192 7 4 15\nAT 2 ACCEPTED 124 2 2 9\n\
+            AT 3 REFUSED SYNTAX 3\nEND\n",
+        ),
+    ];
+    for (words, want) in rows {
+        let (status, sink) = run(rt.alloc(), words, SCRIPT, (0, 0))?;
+        assert_eq!(rt; status, Status::Done, "{words:?}");
+        assert_eq!(rt; sink.bytes(), want.as_bytes(), "{words:?}");
     }
     Ok(())
 }
 
 #[test]
-fn other_words_are_no_command(rt: HostRuntime) -> Result<(), Fail> {
-    let rows: [&[&str]; 6] = [
+fn words_are_commands_or_none(rt: HostRuntime) -> Result<(), Fail> {
+    let rows: [&[&str]; 14] = [
         &[],
-        &["play"],
-        &["solo", "solo"],
-        &["Solo"],
         &[""],
+        &["play"],
+        &["Solo"],
         &["solo "],
+        &["solo", "solo"],
+        &["solo", "summary", "summary"],
+        &["check", "summary"],
+        &["make"],
+        &["make", "1"],
+        &["make", "-0", "1"],
+        &["make", "4294967296", "1"],
+        &["make", "1", "2001"],
+        &["make", "1", "1", "1"],
     ];
     for words in rows {
-        let script = text_of(rt.alloc(), &[SHIFT])?;
-        let (status, sink) = run(rt.alloc(), words, script, (1, 1))?;
+        let (status, sink) = run(rt.alloc(), words, SCRIPT, (1, 1))?;
         assert_eq!(rt; status, Status::Usage, "{words:?}");
         assert_eq!(rt; sink.bytes(), b"".as_slice(), "{words:?}");
     }
@@ -93,72 +103,75 @@ fn other_words_are_no_command(rt: HostRuntime) -> Result<(), Fail> {
 }
 
 #[test]
-fn refusals_and_faults_end_a_run(rt: HostRuntime) -> Result<(), Fail> {
-    let no_script = Status::Refused {
-        line: 0,
-        cause: RefusedCause::NoScript,
-    };
-    let no_program = Status::Refused {
-        line: 0,
-        cause: RefusedCause::NoProgram,
-    };
-    for (script, failing, want, taken) in [
-        (["", "", ""], (0, 0), no_script, ""),
-        ([HEAD, "PUMP := START;\n", ""], (0, 0), no_script, ""),
-        (
-            [HEAD, "PUMP := START AND START;\n", TAIL],
-            (0, 0),
-            no_program,
-            "",
-        ),
-        ([HEAD, "PUMP := (START);\n", TAIL], (0, 0), no_program, ""),
-        ([HEAD, "START := START;\n", TAIL], (0, 0), no_program, ""),
-        (
-            [HEAD, "PUMP := START;\n", TAIL],
-            (2, 0),
-            Status::ReadFault,
-            "",
-        ),
-        (
-            [HEAD, "PUMP := START;\n", TAIL],
-            (0, 1),
-            Status::WriteFault,
-            "",
-        ),
-        (
-            [HEAD, "PUMP := START;\n", TAIL],
-            (0, 3),
-            Status::WriteFault,
-            "TRICON SOLO 1\nSCAN 1\nIN 100 1\nOU",
-        ),
-    ] {
-        let text = text_of(rt.alloc(), script.as_slice())?;
-        let (status, sink) = run(rt.alloc(), &["solo"], text, failing)?;
-        assert_eq!(rt; status, want, "{script:?} {failing:?}");
-        assert_eq!(rt; sink.bytes(), taken.as_bytes(), "{script:?} {failing:?}");
-    }
+fn a_script_is_made(rt: HostRuntime) -> Result<(), Fail> {
+    let (status, sink) = run(rt.alloc(), &["make", "007", "1"], "", (1, 0))?;
+    assert_eq!(rt; status, Status::Done);
+    assert_eq!(rt; sink.bytes().starts_with(b"TRICON 1\nPOINT DI D0\n"), true);
+    assert_eq!(rt;
+        sink.bytes()
+            .ends_with(b"ENDTEXT\nSCANS 1\nAT 1\nSET D32 0\nSET A90 3741\nEND\n"),
+        true
+    );
     Ok(())
 }
 
 #[test]
-fn a_script_may_have_1048576_bytes(rt: HostRuntime) -> Result<(), Fail> {
-    for (size, want) in [
-        (1_048_576, Status::Done),
-        (1_048_577, Status::ScriptTooLong),
-    ] {
-        let mut script = text_of(rt.alloc(), &[SHIFT])?;
-        for _ in script.len()..size {
-            push_bytes(&mut script, b" ")?;
-        }
-        let (status, _) = run(rt.alloc(), &["solo"], script, (0, 0))?;
-        assert_eq!(rt; status, want, "{size}");
+fn refusals_and_faults_end_a_run(rt: HostRuntime) -> Result<(), Fail> {
+    let script = |line, cause| Status::Refused {
+        line,
+        cause: RefusedCause::Script(cause),
+    };
+    let rows = [
+        ("", (0, 0), script(1, ScriptCause::End), ""),
+        (
+            "TRICON 1\nPOINT DI A 1\n",
+            (0, 0),
+            script(2, ScriptCause::Form),
+            "",
+        ),
+        (
+            "TRICON 1\nTEXT\nPROGRAM P END_PROGRAM END\nENDTEXT\nSCANS 1\nEND\n",
+            (0, 0),
+            Status::Refused {
+                line: 2,
+                cause: RefusedCause::Program(Refusal::Syntax { token: 3 }),
+            },
+            "",
+        ),
+        (SCRIPT, (2, 0), Status::ReadFault, ""),
+        (SCRIPT, (0, 1), Status::WriteFault, ""),
+        (
+            SCRIPT,
+            (0, 3),
+            Status::WriteFault,
+            "TRICON SOLO 1\nSCAN 1\nIN 100 1\nOU",
+        ),
+    ];
+    for (text, failing, want, taken) in rows {
+        let (status, sink) = run(rt.alloc(), &["solo"], text, failing)?;
+        assert_eq!(rt; status, want, "{text:?} {failing:?}");
+        assert_eq!(rt; sink.bytes(), taken.as_bytes(), "{text:?} {failing:?}");
     }
     Ok(())
 }
 
 #[test]
 fn each_status_has_its_number_and_line(rt: HostRuntime) -> Result<(), Fail> {
-    let (line, cause) = (40, RefusedCause::NoProgram);
+    let script = |cause| Status::Refused {
+        line: 40,
+        cause: RefusedCause::Script(cause),
+    };
+    let fault = TypeFault {
+        place: 59,
+        cause: TypeCause::WrongType,
+    };
+    let program = Status::Refused {
+        line: 4,
+        cause: RefusedCause::Program(Refusal::Typing(fault)),
+    };
+    let Some(name) = Name::read(b"start") else {
+        return Ok(());
+    };
     for (status, number, want) in [
         (Status::Done, 0, ""),
         (
@@ -166,11 +179,13 @@ fn each_status_has_its_number_and_line(rt: HostRuntime) -> Result<(), Fail> {
             1,
             "usage: tricon play [summary] | solo [summary] | step | check | make NUMBER SCANS\n",
         ),
+        (script(ScriptCause::Second), 2, "refused: line 40: SECOND\n"),
         (
-            Status::Refused { line, cause },
+            script(ScriptCause::Chassis(ChassisFault::Twice(name))),
             2,
-            "refused: line 40: NOPROGRAM\n",
+            "refused: line 40: CHASSIS TWICE START\n",
         ),
+        (program, 2, "refused: line 4: PROGRAM TYPING 59 WRONGTYPE\n"),
         (Status::ReadFault, 3, "read fault\n"),
         (Status::WriteFault, 4, "write fault\n"),
         (Status::NoMemory, 5, "no memory\n"),

@@ -18,7 +18,7 @@ fn main(rt: HostRuntime) -> ExitCode {
         }
         Err(status) => status,
     };
-    tell(&rt, status);
+    tell(&rt, &status);
     ExitCode::from(status.number())
 }
 
@@ -49,9 +49,9 @@ fn copy_word<R: AllocGlobal>(rt: &R, bytes: &[u8]) -> Result<Text, NoMemory> {
 }
 
 // Writes the status line. There is nobody to be told where that fails.
-fn tell<R: AllocGlobal + Eprint>(rt: &R, status: Status) {
+fn tell<R: AllocGlobal + Eprint>(rt: &R, status: &Status) {
     let mut line = Text::new(rt.alloc());
-    if status_line(rt.alloc(), &status, &mut line).is_ok()
+    if status_line(rt.alloc(), status, &mut line).is_ok()
         && let Ok(text) = std::str::from_utf8(line.bytes())
     {
         let _ = eprint!(rt; "{text}");

@@ -2,7 +2,7 @@
 -- How many instructions conditions have with their bodies.
 use Rattle.std.specs.Prelude.{ℕ, ◌+◌, List, [], ◌∷◌}
 use Rattle.st_core.specs.Costs.{term_cost}
-use Rattle.st_core.specs.Inner.Codes.{size_of}
+use Rattle.st_core.specs.Codes.{size_of}
 use Rattle.st_meaning.specs.Statements.{Guarded}
 
 -- a condition, a jump past the body, the body, and a jump to the end

@@ -4,12 +4,14 @@ use Rattle.std.specs.Prelude.{◌≡◌, ◌≢◌, ℕ, zero, suc, ℤ, pos, �
 use Rattle.std.specs.List.{All, AllByRecursion, AllZip}
 use Rattle.std.proofs.Common.{refl, ap, subst, sym, ◌∙◌, arith}
 use Rattle.std.proofs.lemmas.Bool.{leb-true, eqb-true, eq-eqb}
+use Rattle.std.proofs.lemmas.Option.{same_Some}
 use Rattle.std.proofs.lemmas.List.Elements.{All-nil, All-cons, All-filter, recursion_from_All}
 use Rattle.tri_base.specs.declared.point.Point.{Point}
 use Rattle.chassis.specs.Points.{is_input_kind, outputs_of}
 use Rattle.chassis.specs.Ranges.{IsWithin, HoldsZero}
-use Rattle.engine_face.specs.declared.refusal.Refusal.TheVariants.{TooLarge, NoMemory}
-use Rattle.engine_face.specs.Laws.{IsMeaning, TellStores}
+use Rattle.engine_face.specs.declared.refusal.Refusal.{Refusal}
+use Rattle.engine_face.specs.declared.refusal.Refusal.TheVariants.{TooLarge, Syntax}
+use Rattle.engine_face.specs.Laws.{IsMeaning, IsOfText, TellStores}
 use Rattle.engine_face.specs.Counting.{counting_refusal, counted, zeros_at, first_pair, counting}
 use Rattle.tri_base.specs.Limits.{text_limit}
 
@@ -21,14 +23,15 @@ counting_text (b ∷ bs) h = by (nat_le (length (b ∷ bs)) text_limit) refl
     by true e = (omega arith, leb-true (length (b ∷ bs)) text_limit e)
     by false e = let bad : Some TooLarge ≡ None = sym (ap (λ t. cond t None (Some TooLarge)) e) ∙ h in absurd (cc)
 
-counting_no_memory : (text : List ℕ) → counting_refusal text ≢ Some NoMemory
-counting_no_memory [] h = absurd (cc)
-counting_no_memory (b ∷ bs) h = by (nat_le (length (b ∷ bs)) text_limit) refl
+counting_of_text : (text : List ℕ) (refusal : Refusal) → counting_refusal text ≡ Some refusal → IsOfText refusal
+counting_of_text [] refusal h = subst IsOfText (same_Some (Syntax 0) refusal h) tt
+counting_of_text (b ∷ bs) refusal h = by (nat_le (length (b ∷ bs)) text_limit) refl
   where
-    by : (t : Bool) → nat_le (length (b ∷ bs)) text_limit ≡ t → ⊥
-    by true e = let bad : None ≡ Some NoMemory = sym (ap (λ t. cond t None (Some TooLarge)) e) ∙ h in absurd (cc)
+    by : (t : Bool) → nat_le (length (b ∷ bs)) text_limit ≡ t → IsOfText refusal
+    by true e = let bad : None ≡ Some refusal = sym (ap (λ t. cond t None (Some TooLarge)) e) ∙ h in absurd (cc)
     by false e =
-        let bad : Some TooLarge ≡ Some NoMemory = sym (ap (λ t. cond t None (Some TooLarge)) e) ∙ h in absurd (cc)
+        let large : Some TooLarge ≡ Some refusal = sym (ap (λ t. cond t None (Some TooLarge)) e) ∙ h in
+        subst IsOfText (same_Some TooLarge refusal large) tt
 
 counted_length : (words : List ℤ) → length (counted words) ≡ length words
 counted_length [] = refl
@@ -85,7 +88,7 @@ counting_lawful points h = record {
   some_text = λ text e. (counting_text text e).0;
   short_text = λ text e. (counting_text text e).1;
   few_words = λ text e. omega arith;
-  no_memory = counting_no_memory;
+  of_text = counting_of_text;
   first_count = λ text e. refl;
   carried_count = λ old d words e f g k. k;
   scan = λ text words inputs dt e f g k l. record {

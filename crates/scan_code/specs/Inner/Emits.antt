@@ -4,7 +4,7 @@ use Rattle.std.specs.Prelude.{◌≡◌, ℕ, List, ◌++◌, length, Result, On
 use Rattle.scan_machine.specs.declared.instructions.Instr.{Instr}
 use Rattle.st_tree.specs.declared.tag.Tag.{Tag}
 use Rattle.st_core.specs.Core.{Term, Act}
-use Rattle.st_core.specs.Inner.Codes.{Spot, term_code, act_code}
+use Rattle.st_core.specs.Codes.{Spot, term_code, act_code}
 use Rattle.st_sound.specs.Shapes.{shape_in}
 
 -- this code was added, where there was memory for it

@@ -7,7 +7,7 @@ use Rattle.st_tree.specs.declared.tag.Tag.{Tag}
 use Rattle.st_core.specs.Core.{Act}
 use Rattle.st_core.specs.Costs.{term_cost}
 use Rattle.st_core.specs.Memory.{Shape}
-use Rattle.st_core.specs.Inner.Codes.{Spot, moved, term_code, act_code, size_of}
+use Rattle.st_core.specs.Codes.{Spot, moved, term_code, act_code, size_of}
 use Rattle.st_meaning.specs.Statements.{Guarded}
 use Rattle.st_sound.specs.Shapes.{shape_in}
 use Rattle.code_size.specs.Inner.Guards.{guard_size}

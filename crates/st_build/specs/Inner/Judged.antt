@@ -1,8 +1,8 @@
 -- Nobody has to believe what stands here: it serves the implementation of a trait alone.
 -- The function says what the relations say.
-use Rattle.std.proofs.Common.{◌≡◌, ◌≢◌, ℕ, min, pos, nat_lt, Bool, true, false, if◌then◌else◌, List, None, Result, Ok, Err, refl, sym, ap, ◌∙◌, subst}
+use Rattle.std.proofs.Common.{◌≡◌, ◌≢◌, ℕ, min, pos, nat_lt, Bool, true, false, if◌then◌else◌, List, Some, None, Result, Ok, Err, refl, sym, ap, ◌∙◌, subst}
 use Rattle.std.proofs.lemmas.Bool.{ltb-true, ltb-false, lt-ltb, le-ltb}
-use Rattle.std.proofs.lemmas.Option.{none-some}
+use Rattle.std.proofs.lemmas.Option.{none-some, same_Some}
 use Rattle.tri_base.specs.declared.point.Point.{Point}
 use Rattle.st_tree.specs.declared.program.Tree.{Tree}
 use Rattle.st_meaning.specs.Programs.{program_cost}
@@ -10,6 +10,7 @@ use Rattle.code_size.specs.Limits.{greatest_told}
 use Rattle.scan_code.specs.Limits.{cost_limit}
 use Rattle.engine_face.specs.declared.refusal.Refusal.{Refusal}
 use Rattle.engine_face.specs.declared.refusal.Refusal.TheVariants as r
+use Rattle.engine_face.specs.Laws.{IsOfText}
 use Rattle.st_front.specs.FrontEnd.{IsProgram, IsRefused}
 use Rattle.st_front.specs.Judging.{front_of}
 use Rattle.st_front.proofs.Judges.{front_is}
@@ -109,3 +110,26 @@ pub built : (points : List Point) (text : List ℕ) → refusal_in (program_of p
 built points text e =
     let found = built_in (program_of points text) e in
     (found.0, found.1, ((program_is points text).program found.0).0 found.1)
+
+-- a text is rejected for what is wrong with a text
+rejected_of_text : (points : List Point) (text : List ℕ) (refusal : Refusal) → refusal ≢ r.NoMemory → IsRejected points text refusal → IsOfText refusal
+rejected_of_text points text r.TooLarge some h = tt
+rejected_of_text points text (r.Lex place cause) some h = tt
+rejected_of_text points text (r.TooDeep token) some h = tt
+rejected_of_text points text (r.Syntax token) some h = tt
+rejected_of_text points text (r.Typing fault) some h = tt
+rejected_of_text points text (r.TooManyWords words) some h = tt
+rejected_of_text points text (r.TooLong cost) some h = tt
+rejected_of_text points text (r.RenameUnknown name) some h = h
+rejected_of_text points text (r.RenameTwice name) some h = h
+rejected_of_text points text (r.KindChanged name) some h = h
+rejected_of_text points text r.NoMemory some h = some refl
+
+err_in : (a : Result Tree Refusal) (refusal : Refusal) → refusal_in a ≡ Some refusal → a ≡ Err refusal
+err_in (Ok tree) refusal e = absurd (none-some refusal e)
+err_in (Err other) refusal e = ap Err (same_Some other refusal e)
+
+pub refused_of_text : (points : List Point) (text : List ℕ) (refusal : Refusal) → refusal_in (program_of points text) ≡ Some refusal → IsOfText refusal
+refused_of_text points text refusal e =
+    let err = err_in (program_of points text) refusal e in
+    rejected_of_text points text refusal (λ same. never_memory points text (err ∙ ap Err same)) (subst (Means points text) err (text_means points text))

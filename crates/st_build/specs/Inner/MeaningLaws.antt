@@ -1,9 +1,9 @@
 -- Nobody has to believe what stands here: it serves the implementation of a trait alone.
 -- The meaning of programs of Structured Text keeps the laws of engines.
-use Rattle.std.proofs.Common.{◌≡◌, ◌≢◌, ℕ, suc, ◌<◌, ◌≤◌, ℤ, pos, Bool, true, false, not, ◌&&◌, ◌||◌, if◌then◌else◌, List, [], ◌∷◌, ◌++◌, length, length-append, map, Some, None, Result, Ok, Err, arith, refl, sym, ap, ◌∙◌, subst, true≢false}
+use Rattle.std.proofs.Common.{◌≡◌, ◌≢◌, ℕ, suc, ◌<◌, ◌≤◌, ℤ, pos, Bool, true, false, not, ◌&&◌, ◌||◌, if◌then◌else◌, List, [], ◌∷◌, ◌++◌, length, length-append, map, Some, None, Ok, arith, refl, sym, ap, ◌∙◌, subst, true≢false}
 use Rattle.std.specs.List.{All, AllPairs, AllByRecursion, AllZip}
 use Rattle.std.specs.Str.{bytes_eq}
-use Rattle.std.proofs.lemmas.Option.{same_Some, none-some}
+use Rattle.std.proofs.lemmas.Option.{none-some}
 use Rattle.std.proofs.lemmas.Slice.Eq.{bytes_eq-Decides}
 use Rattle.std.proofs.lemmas.List.Elements.{All-nil, All-cons, All-head, All-tail, All-filter, recursion_from_All}
 use Rattle.std.proofs.lemmas.List.Kept.{AllPairs-cons}
@@ -19,15 +19,13 @@ use Rattle.tag_layout.specs.Layout.{total_words, first_words, first_environment}
 use Rattle.tag_layout.proofs.Standing.{counts}
 use Rattle.tag_layout.proofs.FirstValues.{first_laid}
 use Rattle.download_change.proofs.Parts.{carried_count}
-use Rattle.engine_face.specs.declared.refusal.Refusal.{Refusal}
-use Rattle.engine_face.specs.declared.refusal.Refusal.TheVariants.{NoMemory}
 use Rattle.engine_face.specs.Laws.{IsMeaning, IsScan, TellStores}
 use Rattle.engine_face.specs.Counting.{zeros_at}
 use Rattle.st_front.specs.FrontEnd.{IsProgram}
 use Rattle.st_build.specs.Building.{program_of, refusal_in, tags_in, tags_at}
 use Rattle.st_build.specs.Running.{is_named, are_apart, running, scanned_by, stored_by}
 use Rattle.st_build.specs.StructuredText.{structured_text}
-use Rattle.st_build.specs.Inner.Judged.{built, never_memory}
+use Rattle.st_build.specs.Inner.Judged.{built, refused_of_text}
 use Rattle.st_build.specs.Inner.Scans.{is_scan}
 
 -- ---- points of different names
@@ -111,10 +109,6 @@ few points text e =
     let found = built points text e in
     subst (λ tags. total_words tags ≤ word_limit) (sym (own_tags points text found.0 found.1)) found.2.is.few
 
-no_memory : (a : Result Tree Refusal) → a ≢ Err NoMemory → refusal_in a ≢ Some NoMemory
-no_memory (Ok tree) h = λ e. none-some NoMemory e
-no_memory (Err refusal) h = λ e. h (ap Err (same_Some refusal NoMemory e))
-
 -- ---- scans where nothing runs
 
 zeros_fit : (ps : List Point) → AllByRecursion HoldsZero ps → AllZip IsWithin ps (map (λ _. pos 0) ps)
@@ -156,7 +150,7 @@ lawful points h = record {
   some_text = λ text e. let found = built points text e in some_bytes points text found.0 found.2.is;
   short_text = λ text e. (built points text e).2.is.has.has.short;
   few_words = λ text e. few points text e;
-  no_memory = λ text. no_memory (program_of points text) (never_memory points text);
+  of_text = refused_of_text points;
   first_count = λ text e. counts (tags_at points text) (first_environment (tags_at points text)) (first_words (tags_at points text)) (first_laid (tags_at points text));
   carried_count = λ old d words e f g k.
       let new = tags_at points d.text in

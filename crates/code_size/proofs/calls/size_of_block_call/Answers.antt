@@ -1,6 +1,6 @@
 use Rattle.std.proofs.Common.{map, refl, ap, ◌∙◌}
 use Rattle.st_tree.specs.Typing.Statements.{inputs_in}
-use Rattle.st_core.specs.Inner.Codes.{size_of}
+use Rattle.st_core.specs.Codes.{size_of}
 use Rattle.st_meaning.specs.Types.{type_of, block_of}
 use Rattle.st_meaning.specs.Statements.{in_order, set_input, given}
 use Rattle.code_size.specs.Limits.{limited}

@@ -2,7 +2,7 @@ use Rattle.std.proofs.Common.{Option, map, ap, sym, ◌∙◌}
 use Rattle.st_tree.specs.declared.statement.Inputs.{Inputs}
 use Rattle.st_tree.specs.declared.statement.Input.{Input}
 use Rattle.st_tree.specs.Typing.Statements.{inputs_in}
-use Rattle.st_core.specs.Inner.Codes.{size_of}
+use Rattle.st_core.specs.Codes.{size_of}
 use Rattle.st_meaning.specs.Statements.{in_order, set_input, given}
 use Rattle.code_size.specs.Limits.{limited}
 use Rattle.code_size.proofs.ActSizes.{order_size, none_size}

@@ -1,5 +1,5 @@
 use Rattle.std.proofs.Common.{map, arith, refl}
-use Rattle.st_core.specs.Inner.Codes.{size_of}
+use Rattle.st_core.specs.Codes.{size_of}
 use Rattle.st_meaning.specs.Statements.{in_order, set_input, given}
 use Rattle.code_size.proofs.Countings.{counts_from, counts_more, counts_none}
 use Rattle.code_size.proofs.ActSizes.{order_size, none_size}

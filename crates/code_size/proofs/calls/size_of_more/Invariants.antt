@@ -2,7 +2,7 @@ use Rattle.std.proofs.Common.{List, Option, map}
 use Rattle.st_tree.specs.declared.declaration.DeclaredType.{DeclaredType}
 use Rattle.st_tree.specs.declared.tag.Tag.{Tag}
 use Rattle.st_core.specs.Core.{Name}
-use Rattle.st_core.specs.Inner.Codes.{size_of}
+use Rattle.st_core.specs.Codes.{size_of}
 use Rattle.st_meaning.specs.Statements.{in_order, set_input, given}
 use Rattle.code_size.proofs.Countings.{Counts}
 use Rattle.code_size.proofs.ActSizes.{order_size}

@@ -4,7 +4,7 @@ use Rattle.st_tree.specs.declared.statement.Branch.{out-Branch}
 use Rattle.st_tree.specs.declared.statement.Element.{out-Element}
 use Rattle.st_core.specs.Core.{Act}
 use Rattle.st_core.specs.Costs.{term_cost}
-use Rattle.st_core.specs.Inner.Codes.{size_of}
+use Rattle.st_core.specs.Codes.{size_of}
 use Rattle.st_meaning.specs.Expressions.{settled, elaborated, term_of, integer_of}
 use Rattle.st_meaning.specs.Statements.{Labelled, within, or_within, range_of, Guarded, guarded, in_order, act_of, acts_of}
 use Rattle.code_size.specs.Limits.{limited}

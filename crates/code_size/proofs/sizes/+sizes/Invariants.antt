@@ -2,7 +2,7 @@ use Rattle.std.proofs.Common.{◌≡◌, List, map}
 use Rattle.st_tree.specs.declared.tag.Tag.{Tag}
 use Rattle.st_core.specs.Core.{Term}
 use Rattle.st_core.specs.Costs.{term_cost}
-use Rattle.st_core.specs.Inner.Codes.{size_of}
+use Rattle.st_core.specs.Codes.{size_of}
 use Rattle.st_meaning.specs.Statements.{guarded, in_order, act_of}
 use Rattle.code_size.specs.Limits.{limited}
 use Rattle.code_size.specs.Inner.Parts.{branch_in, element_in}

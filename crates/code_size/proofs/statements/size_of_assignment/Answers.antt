@@ -2,7 +2,7 @@ use Rattle.std.proofs.Common.{◌+◌, Option, refl, ap, sym, ◌∙◌}
 use Rattle.std.specs.Option.{option_map}
 use Rattle.st_tree.specs.declared.expression.Expr.{Expr}
 use Rattle.st_core.specs.Costs.{term_cost}
-use Rattle.st_core.specs.Inner.Codes.{size_of}
+use Rattle.st_core.specs.Codes.{size_of}
 use Rattle.st_meaning.specs.Types.{type_of, word_type, element_type}
 use Rattle.st_meaning.specs.Expressions.{settled, settled_term, elaborated}
 use Rattle.st_meaning.specs.Statements.{set_to}

@@ -1,5 +1,5 @@
 use Rattle.std.proofs.Common.{◌++◌, map}
-use Rattle.st_core.specs.Inner.Codes.{act_code}
+use Rattle.st_core.specs.Codes.{act_code}
 use Rattle.st_meaning.specs.Types.{type_of}
 use Rattle.st_meaning.specs.Statements.{in_order, set_input, given}
 use Rattle.st_sound.specs.Shapes.{shape_in}

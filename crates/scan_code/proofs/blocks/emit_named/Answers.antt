@@ -1,7 +1,7 @@
 use Rattle.std.proofs.Common.{◌≡◌, ◌++◌, OnOk, Option, map, ap, sym, ◌∙◌, subst}
 use Rattle.st_tree.specs.declared.statement.Inputs.{Inputs}
 use Rattle.st_tree.specs.Typing.Statements.{inputs_in}
-use Rattle.st_core.specs.Inner.Codes.{act_code}
+use Rattle.st_core.specs.Codes.{act_code}
 use Rattle.st_meaning.specs.Types.{type_of}
 use Rattle.st_meaning.specs.Statements.{in_order, set_input, given}
 use Rattle.st_sound.specs.Shapes.{shape_in}

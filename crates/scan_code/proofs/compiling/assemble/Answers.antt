@@ -2,7 +2,7 @@ use Rattle.std.proofs.Common.{sym, ap, ◌∙◌, subst}
 use Rattle.std.proofs.lemmas.Bool.{false≢true}
 use Rattle.scan_machine.specs.Codes.{CodeValue}
 use Rattle.scan_machine.specs.Rules.{IsVerified}
-use Rattle.st_core.specs.Inner.Codes.{size_of}
+use Rattle.st_core.specs.Codes.{size_of}
 use Rattle.st_core.specs.Compiled.{IsCodeOf}
 use Rattle.st_meaning.specs.Statements.{acts_of}
 use Rattle.st_sound.specs.Shapes.{shape_in}

@@ -18,7 +18,7 @@ use Rattle.st_tree.proofs.ExpressionEquations.{with_operand}
 use Rattle.function_blocks.specs.declared.kinds.Kind.TheVariants as k
 use Rattle.st_core.specs.Core as core
 use Rattle.st_core.specs.Core.{BinaryOperator}
-use Rattle.st_core.specs.Inner.Codes.{term_code}
+use Rattle.st_core.specs.Codes.{term_code}
 use Rattle.st_sound.specs.Shapes.{shape_in}
 use Rattle.st_meaning.specs.Functions.{operator_of, combined, first_asked}
 use Rattle.st_meaning.specs.Expressions.{Elaborated, argument_asked, function_term, logic, equal_operator, compare_operator, add_operator, multiply_operator, more_equal, more_compare, more_add, more_multiply, elaborated}

@@ -17,7 +17,7 @@ use Rattle.st_tree.proofs.ExpressionEquations.{with_operand}
 use Rattle.function_blocks.specs.declared.kinds.Kind.TheVariants as k
 use Rattle.st_core.specs.Core as core
 use Rattle.st_core.specs.Core.{BinaryOperator}
-use Rattle.st_core.specs.Inner.Codes.{term_code}
+use Rattle.st_core.specs.Codes.{term_code}
 use Rattle.st_sound.specs.Shapes.{shape_in}
 use Rattle.st_meaning.specs.Functions.{first_asked}
 use Rattle.st_meaning.specs.Expressions.{logic, equal_operator, compare_operator, more_add, more_multiply, elaborated}

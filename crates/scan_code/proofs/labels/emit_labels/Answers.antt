@@ -1,6 +1,6 @@
 use Rattle.std.proofs.Common.{ap, ◌∙◌, ◌++◌}
 use Rattle.std.proofs.lemmas.List.{get_or_default}
-use Rattle.st_core.specs.Inner.Codes.{term_code}
+use Rattle.st_core.specs.Codes.{term_code}
 use Rattle.st_meaning.specs.Expressions.{integer_of}
 use Rattle.st_meaning.specs.Statements.{range_of}
 use Rattle.st_sound.specs.Shapes.{shape_in}

@@ -1,6 +1,6 @@
 use Rattle.std.proofs.Common.{ap, ◌∙◌, ◌++◌, [], ◌∷◌}
 use Rattle.st_core.specs.Core as core
-use Rattle.st_core.specs.Inner.Codes.{term_code}
+use Rattle.st_core.specs.Codes.{term_code}
 use Rattle.st_meaning.specs.Expressions.{settled, elaborated, integer_of}
 use Rattle.st_meaning.specs.Statements.{range_of}
 use Rattle.st_sound.specs.Shapes.{shape_in}

@@ -5,7 +5,7 @@ use Rattle.st_tree.specs.declared.statement.Branch.{out-Branch}
 use Rattle.st_tree.specs.Integers.{integer_value}
 use Rattle.st_core.specs.Core.{Act}
 use Rattle.st_core.specs.Core as core
-use Rattle.st_core.specs.Inner.Codes.{act_code, size_of, term_code}
+use Rattle.st_core.specs.Codes.{act_code, size_of, term_code}
 use Rattle.st_meaning.specs.Types.{type_of, word_type}
 use Rattle.st_meaning.specs.Expressions.{term_of, integer_of}
 use Rattle.st_meaning.specs.Statements.{Labelled, guarded, range_of, within, or_within, Guarded, in_order, step_of, act_of, acts_of}

@@ -1,6 +1,6 @@
 use Rattle.std.proofs.Common.{◌++◌, map, length}
 use Rattle.st_tree.specs.declared.statement.Element.{Element}
-use Rattle.st_core.specs.Inner.Codes.{act_code}
+use Rattle.st_core.specs.Codes.{act_code}
 use Rattle.st_meaning.specs.Expressions.{integer_of}
 use Rattle.st_meaning.specs.Statements.{guarded, in_order, act_of, acts_of}
 use Rattle.st_sound.specs.Shapes.{shape_in}

@@ -1,7 +1,7 @@
 use Rattle.std.proofs.Common.{◌≡◌, ◌++◌, OnOk, Option, ap, sym, ◌∙◌, subst}
 use Rattle.std.specs.Option.{option_map}
 use Rattle.st_tree.specs.declared.expression.Expr.{Expr}
-use Rattle.st_core.specs.Inner.Codes.{act_code}
+use Rattle.st_core.specs.Codes.{act_code}
 use Rattle.st_meaning.specs.Types.{type_of}
 use Rattle.st_meaning.specs.Expressions.{settled, elaborated}
 use Rattle.st_meaning.specs.Statements.{set_to}

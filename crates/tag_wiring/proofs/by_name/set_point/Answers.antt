@@ -1,4 +1,4 @@
-use Rattle.std.proofs.Common.{FitsSigned, w64, to_z, of_z, pos, slice_index_or, rules, sym, ap, ◌∙◌, drop}
+use Rattle.std.proofs.Common.{FitsSigned, w64, pos, slice_index_or, rules, sym, ap, ◌∙◌, drop}
 use Rattle.std.proofs.lemmas.Int.{to_z-of_z}
 use Rattle.tag_wiring.specs.Inner.Steps.{word_set}
 use Rattle.tag_wiring.proofs.ByName.{output_passed, input_done}

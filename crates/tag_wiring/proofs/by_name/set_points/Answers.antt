@@ -1,6 +1,4 @@
 use Rattle.std.proofs.Common.{length, ◌∙◌, drop}
-use Rattle.chassis.specs.Points.{inputs_of}
-use Rattle.tag_wiring.specs.Inner.Steps.{input_words}
 use Rattle.tag_wiring.proofs.ByName.{left_more, further, none_left}
 use Rattle.tag_wiring.proofs.by_name.set_points.Goals as goal
 

@@ -1,4 +1,4 @@
-use Rattle.std.proofs.Common.{◌≡◌, ◌<◌, refl, sym, subst}
+use Rattle.std.proofs.Common.{◌<◌, refl, sym, subst}
 use Rattle.std.specs.Prelude.{IfSome}
 use Rattle.tag_layout.specs.Layout.{total_words}
 use Rattle.tag_wiring.proofs.Named.{declared_point}

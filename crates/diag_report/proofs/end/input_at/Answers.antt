@@ -1,0 +1,11 @@
+use Rattle.std.proofs.Common.{rules, tests}
+use Rattle.std.proofs.lemmas.Iterator.{YieldsList-from_slice}
+use Rattle.std.proofs.lemmas.Iterator.Consumers.{YieldsList-from_filter, nth_from_yields_List}
+use Rattle.chassis.specs.Points.{is_input_kind}
+use Rattle.diag_report.proofs.end.input_at.Goals as goal
+
+pub returns : goal.returns
+returns c =
+    nth_from_yields_List _ _ _ c.nth.ensures.ran
+    (YieldsList-from_filter _ (λ p. is_input_kind p.kind) (YieldsList-from_slice c.args.points.now cc)
+    c.filter.ensures.closure (λ x r q k. search (rules, tests)))

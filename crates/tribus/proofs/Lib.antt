@@ -1,0 +1,2 @@
+pub mod SettledLinks
+pub mod Steps

@@ -1,0 +1,9 @@
+use Rattle.std.proofs.Common.{rules}
+use Rattle.tribus.proofs.Steps.{begins, forks}
+use Rattle.tribus.proofs.link.open_link.Goals as goal
+
+pub ruled-requires-clause-rule : goal.ruled-requires-clause-rule
+ruled-requires-clause-rule g c = begins
+
+pub another-receiver-requires-clause-rule : goal.another-receiver-requires-clause-rule
+another-receiver-requires-clause-rule g c = forks _ _ (search rules) (search rules)

@@ -1,0 +1,83 @@
+ghost use Rattle.std.specs.Prelude.{◌≡◌, map};
+ghost use Rattle.tri_base.specs.Rows.{TextValue};
+ghost use Rattle.tricon.specs.Commands.{command_of, one_word, two_words, make_of, number_within};
+
+use script_commands::ScriptCommand;
+use tri_base::{SCAN_LIMIT, Text, read_number};
+
+/// What the program is asked to do.
+#[derive(Clone, Copy, Debug, PartialEq, Eq)]
+pub enum Command {
+    /// To read a script, and to write what this command makes of it.
+    Script(ScriptCommand),
+    /// To write a generated script.
+    Make {
+        /// The number that decides what the inputs read.
+        number: u32,
+        /// How many scans the script has, 1 to 2,000.
+        scans: u32,
+    },
+}
+
+/// The command that words are, or None.
+pub(crate) fn read_command(words: &[Text]) -> Option<Command>
+    ensures { result ≡ command_of (map (λ (word : TextValue). word.list) words.now) }
+{
+    match words {
+        [word] => read_one(word.bytes()),
+        [word, second] => read_two(word.bytes(), second.bytes()),
+        [word, number, scans] => read_make(word.bytes(), number.bytes(), scans.bytes()),
+        _ => None,
+    }
+}
+
+/// The command of one word.
+fn read_one(word: &[u8]) -> Option<Command>
+    ensures { result ≡ one_word word.now }
+{
+    if word == b"solo".as_slice() {
+        Some(Command::Script(ScriptCommand::Solo))
+    } else if word == b"check".as_slice() {
+        Some(Command::Script(ScriptCommand::Check))
+    } else {
+        None
+    }
+}
+
+/// The command of two words.
+fn read_two(word: &[u8], second: &[u8]) -> Option<Command>
+    ensures { result ≡ two_words word.now second.now }
+{
+    if word == b"solo".as_slice() && second == b"summary".as_slice() {
+        Some(Command::Script(ScriptCommand::SoloSummary))
+    } else {
+        None
+    }
+}
+
+/// The command `make`, with its two numbers.
+fn read_make(word: &[u8], number: &[u8], scans: &[u8]) -> Option<Command>
+    ensures { result ≡ make_of word.now number.now scans.now }
+{
+    if word != b"make".as_slice() {
+        return None;
+    }
+    let number = read_within(0, u32::MAX, number)?;
+    let scans = read_within(1, SCAN_LIMIT, scans)?;
+    Some(Command::Make { number, scans })
+}
+
+/// The number from `least` to `most` that a word of 1 to 18 digits spells, or None.
+fn read_within(least: u32, most: u32, word: &[u8]) -> Option<u32>
+    ensures { result ≡ number_within least most word.now }
+{
+    if let [b'-', ..] = word {
+        return None;
+    }
+    let number = read_number(word)?;
+    if i64::from(least) <= number && number <= i64::from(most) {
+        Some(number as u32)
+    } else {
+        None
+    }
+}
