@@ -50,13 +50,13 @@ none_from (Some a) e = absurd (cc)
 
 -- ---- turns
 
-turn_low : (n : ℕ) → n ≤ 319 → pos n ≤ℤ last_turn
+pub turn_low : (n : ℕ) → n ≤ 319 → pos n ≤ℤ last_turn
 turn_low n h = omega (arith, ints, h)
 
-below : (a n : ℕ) → 0 < n → n ≤ 320 → a % n ≤ 319
+pub below : (a n : ℕ) → 0 < n → n ≤ 320 → a % n ≤ 319
 below a n h k = omega arith
 
-windows_low : (m : Meaning) (points : List Point) → IsMeaning points m → (text : List ℕ) → m.builds text ≡ None
+pub windows_low : (m : Meaning) (points : List Point) → IsMeaning points m → (text : List ℕ) → m.builds text ≡ None
     → (0 < windows_of (length text + m.word_count text)) × (windows_of (length text + m.word_count text) ≤ 320)
 windows_low m points law text b =
     let p = law.some_text text b in
@@ -66,16 +66,16 @@ windows_low m points law text b =
 
 -- ---- what is voted fits a scan
 
-record IsInput (points : List Point) (v : VotedSheet) : Type 0 where
-  count : length v.values ≡ length (inputs_of points)
-  low : pos 0 ≤ℤ v.time
-  high : v.time ≤ℤ scan_time_limit
+pub record IsInput (points : List Point) (v : VotedSheet) : Type 0 where
+  pub count : length v.values ≡ length (inputs_of points)
+  pub low : pos 0 ≤ℤ v.time
+  pub high : v.time ≤ℤ scan_time_limit
 
 time_in : (points : List Point) (o : Option Readings) → Stands points o → LiesIn (pos 0) scan_time_limit (time_of o)
 time_in points None h = tt
 time_in points (Some r) h = (grind (arith, ints, h), h.1)
 
-voted_fits : (points : List Point) (t : Triple (List ℤ)) → IsInput points (vote_sheet_of points t)
+pub voted_fits : (points : List Point) (t : Triple (List ℤ)) → IsInput points (vote_sheet_of points t)
 voted_fits points t =
     let rs = read_three points t in
     let times = middle_in (pos 0) scan_time_limit (times_of rs) (omega (arith, ints), omega (arith, ints)) (
@@ -125,7 +125,7 @@ module _ (m : Meaning) (points : List Point) (law : IsMeaning points m) where
         turn = turn_low 0 (omega arith);
       }
 
-  kept_prepared : (l : LegScan) (state : State) → All (SwapBuilds m) l.acts → All SwapsBytes l.acts
+  pub kept_prepared : (l : LegScan) (state : State) → All (SwapBuilds m) l.acts → All SwapsBytes l.acts
       → LoadsBytes l.download → IsState m state → IsState m (prepared m l state).state
   unfolding prepared change_point
   kept_prepared l state b s d k =
@@ -152,7 +152,7 @@ module _ (m : Meaning) (points : List Point) (law : IsMeaning points m) where
   }
   kept_half_of v verdict (Learning lesson) i k = k
 
-  kept_half : (leg : Leg) (l : LegScan) (ready : Prepared) (left right : List ℤ) → IsState m ready.state
+  pub kept_half : (leg : Leg) (l : LegScan) (ready : Prepared) (left right : List ℤ) → IsState m ready.state
       → IsState m (half_scan m points leg l ready left right).state
   unfolding half_scan
   kept_half leg l ready left right k =
@@ -161,7 +161,7 @@ module _ (m : Meaning) (points : List Point) (law : IsMeaning points m) where
 
   -- ---- the judgement
 
-  kept_turned : (run : Run) → IsRun m run → IsRun m (turned run)
+  pub kept_turned : (run : Run) → IsRun m run → IsRun m (turned run)
   kept_turned run k =
       let w = windows_low m points law run.text k.builds in
       let e : run_windows run ≡ windows_of (length run.text + m.word_count run.text) =
@@ -288,7 +288,7 @@ module _ (m : Meaning) (points : List Point) (law : IsMeaning points m) where
       (λ e. kept_with_result l lesson (sheet_of left) left refl k)
       (λ e. tt)
 
-  kept_closed : (leg : Leg) (l : LegScan) (half : HalfScan) (left right : List ℤ) → IsState m half.state
+  pub kept_closed : (leg : Leg) (l : LegScan) (half : HalfScan) (left right : List ℤ) → IsState m half.state
       → IsState m (closed m leg l half left right).state
   unfolding closed judged_of learned_of
   kept_closed leg l half left right k = by half.state k

@@ -1,0 +1,11 @@
+pub mod Recovering
+pub mod Standing
+pub mod Carried
+pub mod Majority
+pub mod Judged
+pub mod Sound
+pub mod CalmPlays
+pub mod Between
+pub mod Exchanging
+pub mod Scripts
+pub mod WorkedPlay

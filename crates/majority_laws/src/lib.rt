@@ -1,0 +1,4 @@
+//! The majority carries.
+#![tactic(auto)]
+
+pub mod laws;
