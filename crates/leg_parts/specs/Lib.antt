@@ -1,0 +1,5 @@
+pub mod Results
+pub mod Closings
+pub mod LongLines
+pub mod Logs
+pub mod Inner
