@@ -34,8 +34,8 @@ pub fn kept_tags_keep_their_values()
         ≡ number_of env t.name field) (placed_tags old) }
 {}
 
-/// The words of a kept tag likewise, at the addresses that it has in each of the two programs, where
-/// also the new program has no two tags of one name.
+/// The words of a kept tag likewise, at the addresses that it has in each of the two programs,
+/// where also the new program has no two tags of one name.
 pub fn kept_words_stay()
     ensures { (old new : List Tag) (renames : List Rename)
         → (env first : Environment) (words first_words : List ℤ)

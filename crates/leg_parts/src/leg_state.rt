@@ -211,8 +211,8 @@ impl<E: Engine> LegState<E> {
     }
 
     /// Judges the leg's own result and those of its neighbours where it runs, and learns from these
-    /// two where it learns. It takes memory only with the last window that it learns; after NoMemory
-    /// the state is any.
+    /// two where it learns. It takes memory only with the last window that it learns; after
+    /// NoMemory the state is any.
     pub fn close(
         &mut self,
         leg: Leg,

@@ -10,7 +10,8 @@ pub enum ScriptCause {
     Form,
     /// The chassis can't have the point. It is never for want of memory.
     Chassis(ChassisFault),
-    /// The scan of an AT line is below 1, not above the one before it, or above the number of scans.
+    /// The scan of an AT line is below 1, not above the one before it, or above the number of
+    /// scans.
     Order,
     /// The name is none of an input.
     Point,

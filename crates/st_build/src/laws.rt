@@ -24,8 +24,8 @@ pub fn words_hold_values()
     ensures { WordsHoldValues }
 {}
 
-/// The first words hold the first values, and those that a download goes on with the kept values and
-/// the first ones of the rest.
+/// The first words hold the first values, and those that a download goes on with the kept values
+/// and the first ones of the rest.
 pub fn programs_hold_values()
     ensures { ProgramsHoldValues }
 {}

@@ -11,6 +11,7 @@ use Rattle.leg_laws.specs.Configs.{LegValue}
 use Rattle.leg_laws.specs.Exchanges.{Exchange}
 use Rattle.leg_laws.specs.ExchangeSteps.{Puts, Takes}
 
+-- that part of an exchange
 pub record Around : Type 0 where
   pub leg : LegValue
   pub left : Option (List ℤ)
