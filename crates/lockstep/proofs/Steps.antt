@@ -1,5 +1,7 @@
 -- What a leg does with what it sees is a step of the exchange.
-use Rattle.std.proofs.Common.{◌≡◌, ◌∙◌, ◌↔◌, Bool, true, false, if◌then◌else◌, List, Some, None, Result, Ok, Err, OnOk, OnErr, refl, sym, ap, subst, true≢false}
+use Rattle.std.proofs.Common.{◌≡◌, ◌∙◌, ◌↔◌, ◌+◌, ◌<◌, ℕ, suc, Bool, true, false, if◌then◌else◌, List, [], ◌∷◌, ◌++◌, length, take, get_or, Some, None, Result, Ok, Err, OnOk, OnErr, arith, refl, sym, ap, subst, true≢false}
+use Rattle.std.proofs.Math.Seq.{take-suc}
+use Rattle.std.specs.Result.{is_ok}
 use Rattle.tri_base.specs.declared.leg.Leg.{Leg}
 use Rattle.tri_base.specs.declared.leg.Leg.TheVariants.{A, B, C}
 use Rattle.tri_base.specs.declared.leg.Side.TheVariants.{Left, Right}
@@ -10,8 +12,9 @@ use Rattle.leg_laws.specs.declared.need.Need.TheVariants.{Put, Take, Done}
 use Rattle.leg_laws.specs.Configs.{need_of}
 use Rattle.leg_laws.specs.Exchanges.{Exchange, AllDone, can_serve, can_step}
 use Rattle.leg_laws.specs.Counts.{IsCounted}
-use Rattle.leg_laws.specs.ExchangeSteps.{Serves, ExchangeStep}
+use Rattle.leg_laws.specs.ExchangeSteps.{Serves, ExchangeStep, Reaches}
 use Rattle.leg_laws.proofs.Counts.{step_counts}
+use Rattle.leg_laws.proofs.Reached.{steps_on}
 use Rattle.leg_laws.proofs.Stuck.{none_stuck}
 use Rattle.lockstep.specs.declared.serving.NotEnabled.{NotEnabled}
 use Rattle.lockstep.specs.Inner.Around.{Around, ServesAround, around, can_serve_around, with_around}
@@ -102,3 +105,13 @@ none_first false false false h k l = refl
 
 pub nobody : (w : Exchange) → IsCounted w → can_step w A ≡ false → can_step w B ≡ false → can_step w C ≡ false → AllDone w
 nobody w h a b c = (none_stuck w h).0 (none_first (can_step w A) (can_step w B) (can_step w C) a b c)
+
+-- ---- letters
+
+-- one letter more
+pub followed : (m : List Point → Meaning) (w u w' : Exchange) (letters : List Leg) (place : ℕ) (leg : Leg) (r : Result (Unit {0}) NotEnabled) → place < length letters → leg ≡ get_or letters place A → Reaches m w (take place letters) u → OnOk r (ExchangeStep m u leg w') → is_ok r ≡ true → Reaches m w (take (place + 1) letters) w'
+followed m w u w' letters place leg (Ok t) below is before stepped good =
+    let one : suc place ≡ place + 1 = omega arith in
+    let more : take place letters ++ leg ∷ [] ≡ take (place + 1) letters = ap (λ (x : Leg). take place letters ++ x ∷ []) is ∙ (sym (take-suc letters place A below) ∙ ap (λ (n : ℕ). take n letters) one) in
+    subst (λ (steps : List Leg). Reaches m w steps w') more (steps_on m (take place letters) leg w u w' before stepped)
+followed m w u w' letters place leg (Err e) below is before stepped good = absurd (true≢false (sym good))

@@ -1,3 +1,4 @@
 pub mod Starting
 pub mod Refusals
+pub mod Following
 pub mod Inner

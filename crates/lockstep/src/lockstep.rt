@@ -50,6 +50,7 @@ impl<E: Engine> Lockstep<E> {
     ghost use Rattle.leg_laws.specs.Configs.{need_of};
     ghost use Rattle.leg_laws.specs.Exchanges.{AllDone, can_step, first_enabled};
     ghost use Rattle.leg_laws.specs.ExchangeSteps.{ExchangeStep};
+    ghost use Rattle.lockstep.specs.Following.{Follows};
     ghost use Rattle.lockstep.specs.Refusals.{is_put};
     ghost use Rattle.lockstep.specs.Starting.{AreAtStart, no_packets};
 
@@ -110,6 +111,19 @@ impl<E: Engine> Lockstep<E> {
                 &mut a.left,
             ),
         }
+    }
+
+    /// The legs take turns by these letters. None where all were stepped; else the place, from 0, of
+    /// the first whose leg can't step there, and then the legs stand before it.
+    pub fn follow(&mut self, letters: &[Leg]) -> Option<usize>
+        ensures { Follows E.meaning self.old self.new letters.now result }
+    {
+        for (place, leg) in letters.iter().enumerate() {
+            if self.step(*leg).is_err() {
+                return Some(place);
+            }
+        }
+        None
     }
 
     /// The first of A, B, C whose step is enabled; None exactly where all are done.
