@@ -1,0 +1,5 @@
+//! Legs that play a script over the counting engine.
+#![tactic(auto)]
+
+#[cfg(test)]
+mod playing;
