@@ -7,7 +7,7 @@ ghost use Rattle.script_commands.specs.Playing.{IsPlayed};
 use check_report::write_check;
 use controller_report::{write_solo, write_solo_summary};
 use engine_face::{Engine, Refusal};
-use plant_script::{Script, first_refused_swap};
+use plant_script::{Script, first_refused};
 use std::alloc::Global;
 use tri_base::{NoMemory, Text};
 
@@ -49,23 +49,13 @@ pub fn play<E: Engine>(
     requires points { E.points engine.now ≡ script.now.value.points }
     ensures { IsPlayed command (E.meaning (E.points engine.now)) script.now result }
 {
-    let program = match engine.build(alloc, script.text()) {
-        Ok(program) => program,
-        Err(Refusal::NoMemory) => return Err(Refused::NoMemory),
-        Err(refusal) => {
-            return Err(Refused::Block {
-                line: script.text_line(),
-                refusal,
-            });
-        }
-    };
-    match first_refused_swap(alloc, script, engine) {
+    match first_refused(alloc, script, engine) {
         Ok(None) => {}
         Ok(Some((line, refusal))) => return Err(Refused::Block { line, refusal }),
         Err(NoMemory) => return Err(Refused::NoMemory),
     }
     let mut text = Text::new(alloc);
-    match write(alloc, command, engine, script, program, &mut text) {
+    match write(alloc, command, engine, script, &mut text) {
         Ok(()) => Ok(text),
         Err(NoMemory) => Err(Refused::NoMemory),
     }
@@ -77,10 +67,8 @@ fn write<E: Engine>(
     command: ScriptCommand,
     engine: &E,
     script: &Script,
-    program: E::Program,
     text: &mut Text,
 ) -> Result<(), NoMemory>
-    requires program { E.text_of program ≡ script.now.value.text }
     requires zeros { All HoldsZero (E.points engine.now) }
     requires points { E.points engine.now ≡ script.now.value.points }
     requires builds { (E.meaning (E.points engine.now)).builds script.now.value.text ≡ None }
@@ -88,8 +76,8 @@ fn write<E: Engine>(
         ++ output_of command (E.meaning (E.points engine.now)) script.now.value) }
 {
     match command {
-        ScriptCommand::Solo => write_solo(alloc, engine, script, program, text),
-        ScriptCommand::SoloSummary => write_solo_summary(alloc, engine, script, program, text),
-        ScriptCommand::Check => write_check(alloc, engine, script, program, text),
+        ScriptCommand::Solo => write_solo(alloc, engine, script, text),
+        ScriptCommand::SoloSummary => write_solo_summary(alloc, engine, script, text),
+        ScriptCommand::Check => write_check(alloc, engine, script, text),
     }
 }

@@ -11,7 +11,7 @@ ghost use Rattle.single_controller.specs.Controller.{changed, changed_by, first_
 ghost use Rattle.single_controller.specs.Inner.Voted.{sheet_of};
 
 use engine_face::{Engine, Refusal};
-use plant_script::judged;
+use plant_script::{built, judged};
 use script_text::Tape;
 use std::alloc::Global;
 use std::marker::Model;
@@ -39,15 +39,12 @@ impl<E: Engine> Model for Processor<E> {
 
 impl<E: Engine> Processor<E> {
     /// It starts with a program's first words.
-    pub(crate) fn new(
-        alloc: Global,
-        engine: &E,
-        program: E::Program,
-    ) -> Result<Processor<E>, NoMemory>
-        requires { (E.meaning (E.points engine.now)).builds (E.text_of program) ≡ None }
+    pub(crate) fn new(alloc: Global, engine: &E, text: &Text) -> Result<Processor<E>, NoMemory>
+        requires { (E.meaning (E.points engine.now)).builds text.now.list ≡ None }
         ensures { IfOk result (λ p.
-            p ≡ first_controller (E.meaning (E.points engine.now)) (E.text_of program)) }
+            p ≡ first_controller (E.meaning (E.points engine.now)) text.now.list) }
     {
+        let program = built(alloc, engine, text)?;
         let words = engine.first(alloc, &program)?;
         Ok(Processor {
             program,

@@ -1,5 +1,0 @@
-//! Legs that play a script over the counting engine.
-#![tactic(auto)]
-
-#[cfg(test)]
-mod playing;
