@@ -1,12 +1,14 @@
-ghost use Rattle.std.specs.Prelude.{◌≡◌, ◌<◌, ◌≤◌, ◌+◌, List, ◌∷◌, ◌++◌, length, take, drop};
+ghost use Rattle.std.specs.Prelude.{◌≡◌, ◌<◌, ◌≤◌, ◌+◌, List, ◌∷◌, ◌++◌, length, map, take, drop};
 ghost use Rattle.std.specs.List.{All};
 ghost use Rattle.tri_base.specs.declared.point.Point.{Point};
 ghost use Rattle.chassis.specs.Points.{inputs_of};
 ghost use Rattle.vote_analog.specs.Middle.{AreCounts};
 ghost use Rattle.input_legs.specs.Marks.{counted_from, counted_on, counted_row, disagreements, mark_count};
+ghost use Rattle.input_legs.specs.Inner.Alike.{agreed_row};
 ghost use Rattle.input_legs.specs.Inner.Counts.{HoldCounts, IsLow};
 ghost use Rattle.input_legs.specs.Inner.Shown.{three_shown};
 
+use crate::alike::common_readings;
 use crate::shown::{column, input_count, read_three};
 use chassis::{Chassis, is_input};
 use leg_packet::{InView, Packet};
@@ -65,8 +67,15 @@ impl Discrepancy {
             ≡ note_of chassis.now (record { a = a.now; b = b.now; c = c.now }) self.old }
         ensures length { length self.new ≡ length self.old }
     {
-        let shown = read_three(chassis, a, b, c);
-        count_on(chassis.points(), &shown, self.counts.as_mut_slice());
+        // Its points' tolerances are known to be none below 0.
+        let _points = chassis.points();
+        match common_readings(chassis, a, b, c) {
+            Some(_) => agree_on(self.counts.as_mut_slice()),
+            None => {
+                let shown = read_three(chassis, a, b, c);
+                count_on(chassis.points(), &shown, self.counts.as_mut_slice());
+            }
+        }
     }
 
     /// Whether a leg has a mark at the input at a place in chassis order: TRUE from its fifth
@@ -95,6 +104,22 @@ fn sends(marks: Discrepancy) {
 }
 
 fn needs_send<T: Send + Drop>(_value: T) {}
+
+/// Counts that no leg disagrees, at each input.
+fn agree_on(rows: &mut [Triple<u8>])
+    requires low { All IsLow rows.old }
+    ensures rows { rows.new ≡ map agreed_row rows.old }
+    ensures low { All IsLow rows.new }
+{
+    let none = Triple {
+        a: false,
+        b: false,
+        c: false,
+    };
+    for place in 0..rows.len() {
+        rows[place] = counted_row(&rows[place], none);
+    }
+}
 
 /// Counts the disagreements at each input.
 fn count_on(points: &[Point], shown: &Triple<Option<InView<'_>>>, rows: &mut [Triple<u8>])

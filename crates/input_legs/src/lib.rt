@@ -1,6 +1,7 @@
 //! What three legs read: the vote over their packets, and which legs disagree with it.
 #![tactic(auto)]
 
+mod alike;
 mod discrepancy;
 pub mod laws;
 mod sheet;

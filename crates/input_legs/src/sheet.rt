@@ -9,6 +9,7 @@ ghost use Rattle.input_legs.specs.VotedSheets.{times_of, vote_sheet_of, voted_fr
 ghost use Rattle.input_legs.specs.Inner.Counts.{HoldCounts};
 ghost use Rattle.input_legs.specs.Inner.Shown.{three_shown};
 
+use crate::alike::common_readings;
 use crate::shown::{column, read_three, times_of};
 use chassis::{Chassis, is_input};
 use leg_packet::{InView, Packet};
@@ -18,9 +19,44 @@ use vote_discrete::{truths, vote};
 
 /// Sets the voted scan time, and empties the voted values and fills them with one word for each
 /// input in chassis order. A packet that isn't the spelling of readings is absent at every input.
-/// The time is 0 where all three are absent. It takes no memory.
-#[tactic(auto, using(crate::proofs::Votes::length_voted_from))]
+/// The time is 0 where all three are absent. It takes no memory. Packets with the same words, as
+/// they are in most scans, are read once.
 pub fn vote_sheet(chassis: &Chassis, a: &Packet, b: &Packet, c: &Packet, voted: &mut Voted)
+    requires { HasRoom (length (inputs_of chassis.now)) voted.old.values }
+    ensures time { voted.new.dt
+        ≡ (vote_sheet_of chassis.now (record { a = a.now; b = b.now; c = c.now })).time }
+    ensures values { voted.new.values.list
+        ≡ (vote_sheet_of chassis.now (record { a = a.now; b = b.now; c = c.now })).values }
+    ensures from { pos 0 ≤ℤ voted.new.dt }
+    ensures to { voted.new.dt ≤ℤ scan_time_limit }
+    ensures count { length voted.new.values.list ≡ length (inputs_of chassis.now) }
+    ensures within { AllZip IsWithin (inputs_of chassis.now) voted.new.values.list }
+    ensures room { KeepsRoom voted.old.values voted.new.values }
+{
+    // Its points' ranges are known to be ranges of counts.
+    let _points = chassis.points();
+    match common_readings(chassis, a, b, c) {
+        // The vote over three equal readings is these.
+        Some(view) => set_shown(&view, voted),
+        None => vote_apart(chassis, a, b, c, voted),
+    }
+}
+
+/// Sets what a view shows.
+fn set_shown(view: &InView<'_>, voted: &mut Voted)
+    requires { HasRoom (length view.now.values.now) voted.old.values }
+    ensures time { voted.new.dt ≡ view.now.dt }
+    ensures values { voted.new.values.list ≡ view.now.values.now }
+    ensures room { KeepsRoom voted.old.values voted.new.values }
+{
+    voted.dt = view.dt;
+    voted.values.clear();
+    voted.values.extend(view.values);
+}
+
+/// The vote over any three packets, input by input.
+#[tactic(auto, using(crate::proofs::Votes::length_voted_from))]
+fn vote_apart(chassis: &Chassis, a: &Packet, b: &Packet, c: &Packet, voted: &mut Voted)
     requires { HasRoom (length (inputs_of chassis.now)) voted.old.values }
     ensures time { voted.new.dt
         ≡ (vote_sheet_of chassis.now (record { a = a.now; b = b.now; c = c.now })).time }

@@ -1,8 +1,10 @@
-use Rattle.input_legs.proofs.Votes.{added_in}
+use Rattle.std.proofs.Common.{◌∙◌, sym}
+use Rattle.input_legs.proofs.Common.{common_vote}
 use Rattle.input_legs.proofs.sheet.vote_sheet.Goals as goal
 
-pub returns-clause-within : goal.returns-clause-within
-returns-clause-within c =
-    added_in c.args.chassis.now _ (record { a = c.args.a.now; b = c.args.b.now; c = c.args.c.now }) _ _ _
-    c.points.ensures.chassis.fit c.points.ensures.holds_zero c.points.ensures.value c.read_three-shown.ensures.shown
-    c.clear.ensures.list c.add_votes.ensures.list
+pub returns-in-Some-clause-values : goal.returns-in-Some-clause-values
+returns-in-Some-clause-values c =
+    c.set_shown.ensures.values
+    ∙ sym (common_vote c.args.chassis.now (record { a = c.args.a.now; b = c.args.b.now; c = c.args.c.now })
+    (record { time = c.in-Some.view.dt; values = c.in-Some.view.values.now }) c.points-points.ensures.chassis.fit
+    c.in-Some.ensures.all).1
