@@ -9,27 +9,29 @@ ghost use Rattle.check_report.specs.CheckText as spec;
 ghost use Rattle.check_report.specs.Inner.Told.{told};
 
 use engine_face::{Engine, Refusal};
-use plant_script::{Script, Tape, built, judged, recovery_span, windows};
+use plant_script::{Script, Tape, judged, recovery_span, windows};
 use report_lines::{push_line, push_refusal, push_spaced};
 use std::alloc::Global;
 use tri_base::{Leg, NoMemory, Text, push_bytes};
 
 /// Adds what is told of a script whose text builds: the program's bytes, words, windows and
 /// recovery span; and of each download whether it is accepted by the program that stands there,
-/// with its sizes, or why it is refused. Where memory fails, a part of it may stand there.
+/// with its sizes, or why it is refused. The program is that of the script's text. Where memory
+/// fails, a part of it may stand there.
 pub fn write_check<E: Engine>(
     alloc: Global,
     engine: &E,
     script: &Script,
+    program: E::Program,
     text: &mut Text,
 ) -> Result<(), NoMemory>
+    requires program { E.text_of program ≡ script.now.value.text }
     requires zeros { All HoldsZero (E.points engine.now) }
     requires builds { (E.meaning (E.points engine.now)).builds script.now.value.text ≡ None }
     ensures { OnOk result (text.new.list ≡ text.old.list
         ++ spec.check_text (E.meaning (E.points engine.now)) script.now.value) }
 {
     push_line(text, b"TRICON CHECK", &[1])?;
-    let program = built(alloc, engine, script.text())?;
     push_line(text, b"PROGRAM", &sizes(engine, &program))?;
     push_downloads(alloc, engine, program, script, text)?;
     push_line(text, b"END", &[])?;

@@ -1,5 +1,5 @@
 -- The sum of the outputs.
-use Rattle.std.proofs.Common.{◌≡◌, ◌∙◌, ◌+◌, ◌++◌, ◌∷◌, [], ℕ, ℤ, pos, List, Bool, not, ap, sym, arith, fold}
+use Rattle.std.proofs.Common.{◌≡◌, ◌∙◌, ◌+◌, ◌∷◌, [], ℕ, ℤ, pos, List, not, ap, sym, arith, fold}
 use Rattle.std.specs.List.{All, AllZip, range_with_len}
 use Rattle.std.proofs.lemmas.Int.{ints}
 use Rattle.std.proofs.lemmas.List.Sums.{fold_push}
@@ -15,7 +15,6 @@ use Rattle.single_controller.specs.Controller.{scanned_at}
 use Rattle.controller_report.specs.SoloSummary.{output_sum, plus_all}
 use Rattle.controller_report.specs.Inner.Sums.{IsCount}
 use Rattle.controller_report.proofs.Written.{range_more}
-use Rattle.tri_base.specs.Limits.{greatest_count, least_count}
 use Rattle.std.proofs.Common.{◌≤ℤ◌}
 
 -- a value in a point's range is a number of 16 bits

@@ -13,20 +13,23 @@ use std::alloc::Global;
 use tri_base::{NoMemory, Text, push_bytes};
 
 /// Plays the one controller without faults, and adds its report. The engine is one over the
-/// script's points. Where memory fails, a part of it may stand there.
+/// script's points, and the program that of the script's text. Where memory fails, a part of it may
+/// stand there.
 pub fn write_solo<E: Engine>(
     alloc: Global,
     engine: &E,
     script: &Script,
+    program: E::Program,
     into: &mut Text,
 ) -> Result<(), NoMemory>
+    requires program { E.text_of program ≡ script.now.value.text }
     requires zeros { All HoldsZero (E.points engine.now) }
     requires points { E.points engine.now ≡ script.now.value.points }
     requires builds { (E.meaning (E.points engine.now)).builds script.now.value.text ≡ None }
     ensures { let m = E.meaning (E.points engine.now) in
         OnOk result (into.new.list ≡ into.old.list ++ solo_report m script.now.value) }
 {
-    let mut single = start(alloc, engine, script)?;
+    let mut single = start(alloc, engine, script, program)?;
     push_led_line(into, b"TRICON SOLO", 1, &[])?;
     push_scans(alloc, engine, script, &mut single, into)?;
     push_final(into, &single)?;

@@ -15,13 +15,16 @@ use std::alloc::Global;
 use tri_base::{NoMemory, Text};
 
 /// Plays the one controller without faults, and adds the summary of its run. The engine is one over
-/// the script's points. Where memory fails, a part of it may stand there.
+/// the script's points, and the program that of the script's text. Where memory fails, a part of it
+/// may stand there.
 pub fn write_solo_summary<E: Engine>(
     alloc: Global,
     engine: &E,
     script: &Script,
+    program: E::Program,
     into: &mut Text,
 ) -> Result<(), NoMemory>
+    requires program { E.text_of program ≡ script.now.value.text }
     requires zeros { All HoldsZero (E.points engine.now) }
     requires points { E.points engine.now ≡ script.now.value.points }
     requires builds { (E.meaning (E.points engine.now)).builds script.now.value.text ≡ None }
@@ -30,7 +33,7 @@ pub fn write_solo_summary<E: Engine>(
 {
     push_led_line(into, b"TRICON SUMMARY", 1, &[])?;
     push_scans(into, script.scans())?;
-    push_sum(alloc, engine, script, into)?;
+    push_sum(alloc, engine, script, program, into)?;
     push_line(into, b"END", &[])
 }
 
@@ -47,8 +50,10 @@ fn push_sum<E: Engine>(
     alloc: Global,
     engine: &E,
     script: &Script,
+    program: E::Program,
     into: &mut Text,
 ) -> Result<(), NoMemory>
+    requires program { E.text_of program ≡ script.now.value.text }
     requires zeros { All HoldsZero (E.points engine.now) }
     requires points { E.points engine.now ≡ script.now.value.points }
     requires builds { (E.meaning (E.points engine.now)).builds script.now.value.text ≡ None }
@@ -56,19 +61,25 @@ fn push_sum<E: Engine>(
         OnOk result (into.new.list
         ≡ into.old.list ++ line (codes "SUM") (output_sum m script.now.value ∷ [])) }
 {
-    let sum = output_sum(alloc, engine, script)?;
+    let sum = output_sum(alloc, engine, script, program)?;
     push_led_line(into, b"SUM", sum, &[])
 }
 
 /// The sum of all outputs of all scans.
-fn output_sum<E: Engine>(alloc: Global, engine: &E, script: &Script) -> Result<i64, NoMemory>
+fn output_sum<E: Engine>(
+    alloc: Global,
+    engine: &E,
+    script: &Script,
+    program: E::Program,
+) -> Result<i64, NoMemory>
+    requires program { E.text_of program ≡ script.now.value.text }
     requires zeros { All HoldsZero (E.points engine.now) }
     requires points { E.points engine.now ≡ script.now.value.points }
     requires builds { (E.meaning (E.points engine.now)).builds script.now.value.text ≡ None }
     ensures { let m = E.meaning (E.points engine.now) in
         IfOk result (λ sum. sum ≡ output_sum m script.now.value) }
 {
-    let mut single = start(alloc, engine, script)?;
+    let mut single = start(alloc, engine, script, program)?;
     let mut sum = 0;
     for scan in 0..script.scans() {
         sum = add_scan(alloc, engine, script, &mut single, scan + 1, sum)?;

@@ -1,5 +1,5 @@
 -- Why blocks are refused.
-use Rattle.std.proofs.Common.{◌≡◌, ℕ, List, [], ◌∷◌, Option, Some, None, refl, sym, ap, ◌∙◌, subst}
+use Rattle.std.proofs.Common.{◌≡◌, ℕ, List, [], ◌∷◌, Option, Some, None, refl, sym, ap, ◌∙◌}
 use Rattle.std.proofs.lemmas.Option.{none-some, same_Some}
 use Rattle.tri_base.specs.declared.point.Point.{Point}
 use Rattle.engine_face.specs.declared.refusal.Refusal.{Refusal}

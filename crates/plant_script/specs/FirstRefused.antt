@@ -24,10 +24,13 @@ with_lines lines [] = []
 with_lines [] (text ∷ texts) = (0, text) ∷ with_lines [] texts
 with_lines (line ∷ lines) (text ∷ texts) = (line, text) ∷ with_lines lines texts
 
--- The blocks that have to build, each with the line of its first word, counted from 1. A made script has that of its
--- TEXT in its canonical text.
+-- The SWAP blocks, each with the line of its first word, counted from 1.
+abbrev pub swaps_of : ReadScript → List (ℕ × List ℕ)
+swaps_of s = with_lines s.swap_lines (swap_texts s.value.moments)
+
+-- The blocks that have to build, likewise. A made script has the line of its TEXT in its canonical text.
 abbrev pub blocks_of : ReadScript → List (ℕ × List ℕ)
-blocks_of s = (s.text_line, s.value.text) ∷ with_lines s.swap_lines (swap_texts s.value.moments)
+blocks_of s = (s.text_line, s.value.text) ∷ swaps_of s
 
 -- A block's line and refusal where it has one, else what the blocks behind it come to.
 abbrev pub refused_or : ℕ → Option Refusal → Option (ℕ × Refusal) → Option (ℕ × Refusal)
@@ -42,3 +45,7 @@ first_refused_in m (block ∷ blocks) = refused_or block.0 (m.builds block.1) (f
 -- That of a script.
 abbrev pub first_refused_of : Meaning → ReadScript → Option (ℕ × Refusal)
 first_refused_of m s = first_refused_in m (blocks_of s)
+
+-- That of the SWAP blocks alone.
+abbrev pub first_refused_swap_of : Meaning → ReadScript → Option (ℕ × Refusal)
+first_refused_swap_of m s = first_refused_in m (swaps_of s)

@@ -11,7 +11,7 @@ mod uncalm;
 
 pub use chassis::Chassis;
 pub use laws::refused_blocks_are_no_programs;
-pub use refused::first_refused;
+pub use refused::{first_refused, first_refused_swap};
 pub use script_text::{
     Act, Moment, ScanLine, Script, ScriptCause, ScriptFault, Setting, Tape, read_script,
 };

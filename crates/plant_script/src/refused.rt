@@ -1,6 +1,6 @@
 ghost use Rattle.std.specs.Prelude.{◌≡◌, ◌++◌, List, ℕ, IfOk};
 ghost use Rattle.std.specs.List.{flat_map};
-ghost use Rattle.plant_script.specs.FirstRefused.{first_refused_in, first_refused_of, swap_text, swap_texts, with_lines};
+ghost use Rattle.plant_script.specs.FirstRefused.{first_refused_in, first_refused_of, first_refused_swap_of, swap_text, swap_texts, with_lines};
 ghost use Rattle.plant_script.specs.Inner.Blocks.{GoesOn, TakesLine};
 
 use engine_face::{Engine, Refusal};
@@ -21,7 +21,20 @@ pub fn first_refused<E: Engine>(
     if let Some(refusal) = refused(alloc, script.text(), engine)? {
         return Ok(Some((script.text_line(), refusal)));
     }
-    first_refused_swap(alloc, script.moments(), script.swap_lines(), engine)
+    first_refused_swap(alloc, script, engine)
+}
+
+/// The line of the first SWAP block that the engine doesn't build, counted from 1, and why. None
+/// where all build.
+pub fn first_refused_swap<E: Engine>(
+    alloc: Global,
+    script: &Script,
+    engine: &E,
+) -> Result<Option<(u32, Refusal)>, NoMemory>
+    ensures { IfOk result (λ found.
+        found ≡ first_refused_swap_of (E.meaning (E.points engine.now)) script.now) }
+{
+    refused_swap(alloc, script.moments(), script.swap_lines(), engine)
 }
 
 /// Why the engine doesn't build a text; None where it does.
@@ -40,7 +53,7 @@ fn refused<E: Engine>(alloc: Global, text: &Text, engine: &E) -> Result<Option<R
 }
 
 /// The first SWAP block that the engine doesn't build, of the blocks whose lines are given.
-fn first_refused_swap<E: Engine>(
+fn refused_swap<E: Engine>(
     alloc: Global,
     moments: &[Moment],
     numbers: &[u32],

@@ -3,7 +3,6 @@ use Rattle.std.proofs.Common.{◌≡◌, ℕ, zero, suc, List, Option, Some, Non
 use Rattle.tri_base.specs.Downloads.{Download}
 use Rattle.engine_face.specs.declared.refusal.Refusal.{Refusal}
 use Rattle.engine_face.specs.Meaning.{Meaning, changes}
-use Rattle.script_text.specs.ScriptValue.{ScriptValue}
 use Rattle.plant_script.specs.SingleTexts.{download_at, text_by, text_changed, text_after}
 use Rattle.single_controller.specs.Controller.{Controller, changed_by, changed, controller_after}
 use Rattle.single_controller.specs.Laws.{HasTheText}

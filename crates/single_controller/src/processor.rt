@@ -11,7 +11,7 @@ ghost use Rattle.single_controller.specs.Controller.{changed, changed_by, first_
 ghost use Rattle.single_controller.specs.Inner.Voted.{sheet_of};
 
 use engine_face::{Engine, Refusal};
-use plant_script::{built, judged};
+use plant_script::judged;
 use script_text::Tape;
 use std::alloc::Global;
 use std::marker::Model;
@@ -39,12 +39,15 @@ impl<E: Engine> Model for Processor<E> {
 
 impl<E: Engine> Processor<E> {
     /// It starts with a program's first words.
-    pub(crate) fn new(alloc: Global, engine: &E, text: &Text) -> Result<Processor<E>, NoMemory>
-        requires { (E.meaning (E.points engine.now)).builds text.now.list ≡ None }
+    pub(crate) fn new(
+        alloc: Global,
+        engine: &E,
+        program: E::Program,
+    ) -> Result<Processor<E>, NoMemory>
+        requires { (E.meaning (E.points engine.now)).builds (E.text_of program) ≡ None }
         ensures { IfOk result (λ p.
-            p ≡ first_controller (E.meaning (E.points engine.now)) text.now.list) }
+            p ≡ first_controller (E.meaning (E.points engine.now)) (E.text_of program)) }
     {
-        let program = built(alloc, engine, text)?;
         let words = engine.first(alloc, &program)?;
         Ok(Processor {
             program,

@@ -65,14 +65,21 @@ pub struct ScanOutcome {
     pub arith: bool,
 }
 
-/// The one controller before the first scan, with room for what its scans need.
-pub fn start<E: Engine>(alloc: Global, engine: &E, script: &Script) -> Result<Single<E>, NoMemory>
+/// The one controller before the first scan, with room for what its scans need. The program is that
+/// of the script's text.
+pub fn start<E: Engine>(
+    alloc: Global,
+    engine: &E,
+    script: &Script,
+    program: E::Program,
+) -> Result<Single<E>, NoMemory>
+    requires program { E.text_of program ≡ script.now.value.text }
     requires zeros { All HoldsZero (E.points engine.now) }
     requires builds { (E.meaning (E.points engine.now)).builds script.now.value.text ≡ None }
     ensures { IfOk result (λ single.
         Stands (E.meaning (E.points engine.now)) script.now.value 0 single) }
 {
-    let processor = Processor::new(alloc, engine, script.text())?;
+    let processor = Processor::new(alloc, engine, program)?;
     let faces = Triple {
         a: Face::new(alloc, script, Leg::A)?,
         b: Face::new(alloc, script, Leg::B)?,

@@ -1,4 +1,4 @@
-use Rattle.std.proofs.Common.{◌≡◌, ◌++◌, OnOk, List, ℕ, subst, codes}
+use Rattle.std.proofs.Common.{◌≡◌, OnOk, List, ℕ, subst, codes}
 use Rattle.report_lines.specs.Refusals.{refusal_text}
 use Rattle.controller_report.proofs.Written.{three_more}
 use Rattle.controller_report.proofs.solo.push_refused.Goals as goal

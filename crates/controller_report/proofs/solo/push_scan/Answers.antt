@@ -1,4 +1,4 @@
-use Rattle.std.proofs.Common.{◌≡◌, ◌∷◌, [], ◌++◌, ◌∙◌, OnOk, List, ℕ, subst, ap, codes, pos}
+use Rattle.std.proofs.Common.{◌≡◌, ◌∷◌, [], ◌++◌, ◌∙◌, OnOk, List, ℕ, subst, ap, codes}
 use Rattle.report_lines.specs.Lines.{line}
 use Rattle.controller_report.specs.SoloReport.{flag_number}
 use Rattle.controller_report.proofs.Written.{five_more, scan_is}

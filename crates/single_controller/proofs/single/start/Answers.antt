@@ -10,4 +10,4 @@ returns g c =
     let m = g.E.Engine.meaning points in
     let v = c.args.script.now.value in
     let lawful : IsMeaning points m = g.met.E.Engine.lawful points c.requires.zeros in
-    first_stands m v _ (c.in_ok-processor.ensures ∙ ap (first_controller m) c.text.ensures.value) c.in_ok-new.ensures c.in_ok-new-2.ensures c.in_ok-new-3.ensures c.requires.builds (lawful.first_count v.text c.requires.builds)
+    first_stands m v _ (c.in_ok-processor.ensures ∙ ap (first_controller m) c.requires.program) c.in_ok-new.ensures c.in_ok-new-2.ensures c.in_ok-new-3.ensures c.requires.builds (lawful.first_count v.text c.requires.builds)

@@ -1,6 +1,6 @@
 use Rattle.std.proofs.Common.{◌∙◌, sym}
 use Rattle.plant_script.proofs.Facts.{nothing_left}
-use Rattle.plant_script.proofs.refused.first_refused_swap.Goals as goal
+use Rattle.plant_script.proofs.refused.refused_swap.Goals as goal
 
 pub returns : goal.returns
 returns g c =

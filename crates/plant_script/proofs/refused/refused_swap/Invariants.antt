@@ -1,7 +1,7 @@
 use Rattle.std.proofs.Common.{◌≡◌, length}
 use Rattle.plant_script.specs.FirstRefused.{first_refused_in, swap_texts, with_lines}
 use Rattle.plant_script.specs.Inner.Blocks.{first_behind}
-use Rattle.plant_script.proofs.refused.first_refused_swap.Given as goal
+use Rattle.plant_script.proofs.refused.refused_swap.Given as goal
 
 -- the blocks so far build
 abbrev pub invariant-moments : goal.invariant-moments
