@@ -8,6 +8,7 @@ use Rattle.tri_base.specs.declared.point.Point.{Point}
 use Rattle.chassis.specs.Points.{inputs_of}
 use Rattle.fault_history.specs.declared.history.Entry.{Entry}
 use Rattle.fault_history.specs.Notes.{EndingData, Learns, Runs}
+use Rattle.report_lines.specs.Calm.{calm_line}
 use Rattle.report_lines.specs.Lines.{line, two_words}
 use Rattle.report_lines.specs.Refusals.{named}
 use Rattle.diag_report.specs.Judgements.{judgement_text, leg_letter}
@@ -45,11 +46,6 @@ final_line leg (Learns windows) =
 -- The same of the three legs.
 abbrev pub final_lines : (a b c : EndingData) → List ℕ
 final_lines a b c = final_line A a ++ (final_line B b ++ final_line C c)
-
--- Whether all scans were calm, else the first that wasn't.
-abbrev pub calm_line : Option ℕ → List ℕ
-calm_line None = two_words (codes "CALM") (codes "YES")
-calm_line (Some scan) = line (named (codes "CALM") (codes "NO")) (pos scan ∷ [])
 
 -- The part of the report behind the last scan: the history, the marks, how the legs stand, whether all was calm.
 abbrev pub end_part_of :

@@ -1,7 +1,7 @@
 -- The summary of a play of the three legs. Own rule.
 use Rattle.std.specs.Prelude.{ℕ, ℤ, pos, List, [], ◌∷◌, ◌++◌, Option, codes}
+use Rattle.report_lines.specs.Calm.{calm_line}
 use Rattle.report_lines.specs.Lines.{line}
-use Rattle.diag_report.specs.EndPart.{calm_line}
 
 -- The first line, the number of scans, the sum of all values of all outputs, and how many scans have the alarm MP.
 abbrev pub counts_of : (scans : ℕ) (sum : ℤ) (alarmed : ℕ) → List ℕ

@@ -7,13 +7,13 @@ ghost use Rattle.fault_history.specs.Notes.{ending_data};
 ghost use Rattle.report_lines.specs.Lines.{line};
 ghost use Rattle.report_lines.specs.Refusals.{named};
 ghost use Rattle.diag_report.specs.Judgements.{leg_letter};
-ghost use Rattle.diag_report.specs.EndPart.{calm_line, end_part_of, entry_line, final_line, final_lines, history_lines, mark_line, mark_lines, point_name};
+ghost use Rattle.diag_report.specs.EndPart.{end_part_of, entry_line, final_line, final_lines, history_lines, mark_line, mark_lines, point_name};
 
 use crate::count::push_count;
 use crate::judgement::{push_judged, push_letter, push_lettered};
 use chassis::{Chassis, is_input};
 use fault_history::{Ending, Entry, History};
-use report_lines::{push_led_line, push_line, push_spaced};
+use report_lines::{push_calm, push_led_line, push_line, push_spaced};
 use std::alloc::Global;
 use tri_base::{Leg, NoMemory, Point, Text, Words, push_bytes, push_number};
 
@@ -162,14 +162,4 @@ fn push_run(text: &mut Text, epoch: i64, turn: i64, words: &Words) -> Result<(),
     push_bytes(text, b" RUN")?;
     push_spaced(text, epoch)?;
     push_led_line(text, b"", turn, words.items())
-}
-
-/// Adds the line of whether all scans were calm.
-pub(crate) fn push_calm(text: &mut Text, uncalm: Option<u32>) -> Result<(), NoMemory>
-    ensures { OnOk result (text.new.list ≡ text.old.list ++ calm_line uncalm) }
-{
-    match uncalm {
-        None => push_bytes(text, b"CALM YES\n"),
-        Some(scan) => push_count(text, b"CALM NO", scan),
-    }
 }

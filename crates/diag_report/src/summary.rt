@@ -3,8 +3,7 @@ ghost use Rattle.tri_base.specs.Rows.{KeepsRoom};
 ghost use Rattle.diag_report.specs.Summary.{counts_of, summary_of};
 
 use crate::count::push_count;
-use crate::end::push_calm;
-use report_lines::{push_led_line, push_line};
+use report_lines::{push_calm, push_led_line, push_line};
 use std::alloc::Global;
 use tri_base::{NoMemory, Text, push_bytes};
 
