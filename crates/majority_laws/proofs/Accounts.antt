@@ -19,8 +19,7 @@ use Rattle.script_text.specs.ScriptValue.{ScriptValue}
 use Rattle.plant_script.specs.Calm.{IsCalm, IsQuietScan}
 use Rattle.plant_script.specs.Countdown.{IsSound, IsSuspect, recovery_countdown}
 use Rattle.single_controller.specs.Controller.{scanned_at, verdict_at, voted_at}
-use Rattle.leg_laws.specs.States.{Learning, Run, Running, State}
-use Rattle.leg_laws.specs.ChangePoint.{Prepared}
+use Rattle.leg_laws.specs.States.{Run, Running}
 use Rattle.leg_laws.specs.HalfScans.{HalfScan, half_of, run_on, run_sheet}
 use Rattle.leg_laws.specs.Closing.{Closed, agreed, scan_note}
 use Rattle.leg_laws.specs.Plays.{Play, play_of}
@@ -30,11 +29,12 @@ use Rattle.leg_laws.proofs.Scans.{next_scan}
 use Rattle.majority_laws.specs.Carried.{told}
 use Rattle.majority_laws.specs.Majority.{CanBePlayed, note_at}
 use Rattle.majority_laws.specs.Judged.{AccusesSuspect, JudgesFairly}
-use Rattle.majority_laws.specs.Standing.{good_result, result_from, run_in}
+use Rattle.majority_laws.specs.Recovering.{shown_in}
+use Rattle.majority_laws.specs.Standing.{StandsGood, good_result, result_from, run_in}
 use Rattle.majority_laws.proofs.Countdown.{IsQuiet, one_of, others_sound, two_sound}
 use Rattle.majority_laws.proofs.Ring3.{sides_apart}
 use Rattle.majority_laws.proofs.Track.{ShownAt, faces_here, good_before, good_shown, quiet_here, seen_at, states_at, tracked_before, voted_here}
-use Rattle.majority_laws.proofs.Votes.{accusing, beside_left, beside_right, equal_votes, mid_is, ready_at, same_from, same_is, stays, three_faces}
+use Rattle.majority_laws.proofs.Votes.{accusing, beside_left, beside_right, mid_is, same_from, same_is, stays}
 
 -- ---- notes stay, one a scan
 
@@ -96,7 +96,7 @@ module _ (m : Meaning) (v : ScriptValue) (can : CanBePlayed m v) (scan : ℕ) (f
   abbrev verdict : Option Verdict
   verdict = told (verdict_at m v scan)
 
-  abbrev vote_is : vote_sheet_of v.points (three_faces (seen_at m v can behind)) ≡ voted_at v scan
+  abbrev vote_is : vote_sheet_of v.points (shown_in (seen_at m v can behind)) ≡ voted_at v scan
   vote_is = voted_here m v can scan first last
 
   shown : (x : Leg) → IsSound m v x scan → Out x × IsQuiet (seen_at m v can behind x)
@@ -144,12 +144,15 @@ module _ (m : Meaning) (v : ScriptValue) (can : CanBePlayed m v) (scan : ℕ) (f
     pub drive_is : (note_at m v scan x).drive ≡ Some (scanned_at m v scan).outputs
     pub flag_is : (note_at m v scan x).arith ≡ (scanned_at m v scan).flag
 
-  carried_by : (x : Leg) (side : Side) → Out x → IsQuiet (seen_at m v can behind x) → Closes x side → Notes x
-  carried_by x side h q c =
-      let half : half_here x ≡ half_of m (voted_at v scan) verdict (Running run) =
+  half_is : (x : Leg) → Out x → half_here x ≡ half_of m (voted_at v scan) verdict (Running run)
+  half_is x h =
       (mid_is m v.points (seen_at m v can behind) (states_at m v can behind) (faces_here m v can scan first last here)
       run verdict x h).mid
-      ∙ ap (λ (w : VotedSheet). half_of m w verdict (Running run)) vote_is in
+      ∙ ap (λ (w : VotedSheet). half_of m w verdict (Running run)) vote_is
+
+  carried_by : (x : Leg) (side : Side) → Out x → IsQuiet (seen_at m v can behind x) → Closes x side → Notes x
+  carried_by x side h q c =
+      let half : half_here x ≡ half_of m (voted_at v scan) verdict (Running run) = half_is x h in
       record {
         verdict_is = ap (λ (t : NoteData). t.verdict) (note_is x) ∙ ap (λ (t : HalfScan). t.verdict) half;
         drive_is = ap (λ (t : NoteData). t.drive) (note_is x) ∙ ap (λ (t : Closed). t.drive) c.closed
@@ -182,6 +185,15 @@ module _ (m : Meaning) (v : ScriptValue) (can : CanBePlayed m v) (scan : ℕ) (f
       (mid_is m v.points (seen_at m v can behind) (states_at m v can behind) (faces_here m v can scan first last here)
       run verdict (right_of x) h).left
       ∙ ap (λ (w : VotedSheet). spelled (run_sheet run (run_on m run w))) vote_is
+
+  -- a sound leg within the scan
+  pub stands_good : (x : Leg) → IsSound m v x scan → StandsGood m v scan x
+  stands_good x sound =
+      let h = (shown x sound).0 in
+      record {
+        ready = h.ready;
+        result = ap (λ (t : HalfScan). t.own) (half_is x h);
+      }
 
   -- a sound leg has a sound neighbour
   beside_sound : (x : Leg) → (IsSound m v (left_of x) scan) ⊎ (IsSound m v (right_of x) scan)
@@ -241,24 +253,6 @@ module _ (m : Meaning) (v : ScriptValue) (can : CanBePlayed m v) (scan : ℕ) (f
     same = λ side s e. same_judged x side (closes_to x side sound s) e;
     other = λ side s e. other_judged x side (closes_to x side sound s) e;
   }
-
-  -- each leg votes the same, sound or not
-  voted_of : (w : VotedSheet) (u : Option Verdict) (state : State) → (half_of m w u state).voted ≡ w
-  voted_of w u (Running r) = refl
-  voted_of w u (Learning o) = refl
-
-  pub votes_carried : (x : Leg)
-      → ((note_at m v scan x).time ≡ (voted_at v scan).time) × ((note_at m v scan x).values ≡ (voted_at v scan).values)
-  votes_carried x =
-      let p : Prepared = ready_at m (seen_at m v can behind) (states_at m v can behind) x in
-      let w : (half_here x).voted ≡ voted_at v scan =
-      ap (λ (t : HalfScan). t.voted)
-      (equal_votes m v.points (seen_at m v can behind) (states_at m v can behind)
-      (faces_here m v can scan first last here) x)
-      ∙ voted_of _ p.verdict p.state ∙ vote_is in (
-        ap (λ (t : NoteData). t.time) (note_is x) ∙ ap (λ (t : VotedSheet). t.time) w,
-        ap (λ (t : NoteData). t.values) (note_is x) ∙ ap (λ (t : VotedSheet). t.values) w,
-      )
 
   -- two legs at least note what the one controller does
   pub record TwoNote : Type 0 where

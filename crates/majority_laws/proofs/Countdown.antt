@@ -167,7 +167,7 @@ same_text : (m : Meaning) (d : Option Download) (text : List ℕ) → accepts m 
 same_text m None text e = refl
 same_text m (Some d) text e = same_text_by d text (changes m text d) e
 
-text_one : (m : Meaning) (v : ScriptValue) (k : ℕ) → accepts m (download_at v (suc k)) (text_after m v k) ≡ false
+pub text_one : (m : Meaning) (v : ScriptValue) (k : ℕ) → accepts m (download_at v (suc k)) (text_after m v k) ≡ false
     → text_after m v (suc k) ≡ text_after m v k
 unfolding text_after
 text_one m v k e = same_text m (download_at v (suc k)) (text_after m v k) e

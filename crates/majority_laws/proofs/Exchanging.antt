@@ -26,10 +26,12 @@ use Rattle.leg_laws.proofs.Reached.{equal_tapes, scripts_stay_in_step}
 use Rattle.leg_laws.proofs.Settled.{settled_played}
 use Rattle.majority_laws.specs.Carried.{Carry}
 use Rattle.majority_laws.specs.Majority.{CanBePlayed, note_at}
+use Rattle.majority_laws.specs.EqualVotes.{HasNoTwoFaces, VoteTheSame}
 use Rattle.majority_laws.specs.Exchanging.{CarryOn, HaveCarried, HaveNoted, note_in}
 use Rattle.majority_laws.specs.Judged.{JudgesFairly}
 use Rattle.majority_laws.specs.Sound.{good_ending}
 use Rattle.majority_laws.proofs.Accounts.{sound_judged}
+use Rattle.majority_laws.proofs.EqualVotes.{votes_equal}
 use Rattle.majority_laws.proofs.Outputs.{carried}
 use Rattle.majority_laws.proofs.Sound.{sound_ends}
 
@@ -45,20 +47,27 @@ front notes all scan away first there e =
     ∙ get_or-drop away all j no_note
     ∙ ap (λ (n : ℕ). get_or all n no_note) at
 
-module _ (m : Meaning) (v : ScriptValue) (vs : Leg → LegValue) (can : CanBePlayed m v)
-    (is : IsInStep m (play_of v) vs) where
+module _ (m : Meaning) (v : ScriptValue) (vs : Leg → LegValue) (is : IsInStep m (play_of v) vs) where
   note_is : (scan : ℕ) → 1 ≤ scan → HaveNoted vs scan → (leg : Leg) → note_in (vs leg) scan ≡ note_at m v scan leg
   note_is scan first h leg =
       front (vs leg).notes (after_scans m (play_of v) leg scan).notes scan (vs leg).given first (h.there leg)
       (is.early scan h.noted leg)
 
-  pub in_step_carry : (scan : ℕ) → HaveNoted vs scan → 1 ≤ scan → scan ≤ v.scans → IsCalm m v scan
+  notes_are : (scan : ℕ) → 1 ≤ scan → HaveNoted vs scan → note_at m v scan ≡ (λ (leg : Leg). note_in (vs leg) scan)
+  notes_are scan first h = λ i leg. sym (note_is scan first h leg) i
+
+  pub in_step_vote : (scan : ℕ) → HaveNoted vs scan → 1 ≤ scan → scan ≤ v.scans → HasNoTwoFaces v scan
+      → VoteTheSame v scan (λ (leg : Leg). note_in (vs leg) scan)
+  in_step_vote scan h first last one =
+      subst (λ (notes : Leg → NoteData). VoteTheSame v scan notes) (notes_are scan first h)
+      (votes_equal m v scan first last one)
+
+  pub in_step_carry : (scan : ℕ) → CanBePlayed m v → HaveNoted vs scan → 1 ≤ scan → scan ≤ v.scans → IsCalm m v scan
       → CarryOn m v scan vs
-  in_step_carry scan h first last calm =
-      let same : note_at m v scan ≡ (λ (leg : Leg). note_in (vs leg) scan) =
-      λ i leg. sym (note_is scan first h leg) i in
+  in_step_carry scan can h first last calm =
       record {
-        carried = subst (λ (notes : Leg → NoteData). Carry m v scan notes) same (carried m v scan can first last calm);
+        carried = subst (λ (notes : Leg → NoteData). Carry m v scan notes) (notes_are scan first h)
+            (carried m v scan can first last calm);
         judged = λ leg sound.
             subst (λ (note : NoteData). JudgesFairly m v scan leg note) (sym (note_is scan first h leg))
             (sound_judged m v can scan first last calm leg sound);
@@ -70,7 +79,7 @@ pub exchanging_carry : (m : List Point → Meaning) (v : ScriptValue) (steps : L
     → CanBePlayed (m v.points) v → IsReached m (play_of v) steps w → HaveNoted (leg_part w.legs) scan
     → 1 ≤ scan → scan ≤ v.scans → IsCalm (m v.points) v scan → CarryOn (m v.points) v scan (leg_part w.legs)
 exchanging_carry m v steps w scan can r h first last calm =
-    in_step_carry (m v.points) v (leg_part w.legs) can (scripts_stay_in_step m v steps w r) scan h first last calm
+    in_step_carry (m v.points) v (leg_part w.legs) (scripts_stay_in_step m v steps w r) scan can h first last calm
 
 -- ---- over links
 
@@ -88,15 +97,16 @@ in_step_end m v vs can is fed calm leg done sound =
     ∙ ap (λ e. Some e) (sound_ends m v v.scans can (omega arith) calm leg sound)
 
 pub settled_carry : (m : Meaning) (v : ScriptValue) (vs : Leg → LegValue) (ls : Leg → SentTaken)
-    (left : Leg → Side → List (List ℤ)) → CanBePlayed m v → HaveFollowed m (play_of v) vs ls → IsSettled ls left
+    (remaining : Leg → Side → List (List ℤ)) → CanBePlayed m v → HaveFollowed m (play_of v) vs ls
+    → IsSettled ls remaining
     → NoneStarved vs → HaveCarried m v vs
-settled_carry m v vs ls left can f s fed =
-    let is : IsInStep m (play_of v) vs = (settled_played m (play_of v) vs ls left (equal_tapes v) f s).in_step in
+settled_carry m v vs ls remaining can f s fed =
+    let is : IsInStep m (play_of v) vs = (settled_played m (play_of v) vs ls remaining (equal_tapes v) f s).in_step in
     let done : (leg : Leg) → noted (vs leg) ≡ v.scans =
     λ leg. (is.fed fed leg).number ∙ (is.ends fed leg (f.done leg)).finished ∙ scans_are v leg in
     record {
       scans = λ scan first last calm there.
-          in_step_carry m v vs can is scan
+          in_step_carry m v vs is scan can
           (record { noted = λ leg. omega (arith, last, done leg); there = there }) first last calm;
       ends = λ calm leg sound. in_step_end m v vs can is fed calm leg (f.done leg) sound;
     }

@@ -10,11 +10,14 @@ pub mod Seen
 pub mod Numbers
 pub mod Controllers
 pub mod Countdown
+pub mod GoodRuns
 pub mod Track
 pub mod Accounts
+pub mod EqualVotes
 pub mod Outputs
 pub mod Sound
 pub mod Between
 pub mod Exchanging
 pub mod Scripts
 pub mod WorkedPlay
+pub mod WorkedRecovery

@@ -13,7 +13,7 @@ use Rattle.std.specs.List.{All}
 use Rattle.leg_laws.specs.Plays.{SwapBuilds}
 use Rattle.leg_laws.proofs.KeptStates.{kept_closed, kept_half, kept_prepared, voted_fits}
 use Rattle.leg_laws.specs.ChangePoint.{Prepared, change_point, changed_run, next_epoch}
-use Rattle.leg_laws.specs.Closing.{Closed, closed, judged_of, learned_of, run_windows, turned}
+use Rattle.leg_laws.specs.Closing.{Closed, closed, judged_of, learned_of, run_windows}
 use Rattle.leg_laws.specs.HalfScans.{half_of, run_on, run_sheet}
 use Rattle.leg_laws.specs.States.{IsRun, IsState, Learning, Run, Running, State}
 use Rattle.leg_laws.specs.ThreeScans.{closed_at, from_left, from_right, half_at}
@@ -21,7 +21,8 @@ use Rattle.leg_packet.specs.Sheets.{Sheet, epoch_limit, sheet_of, spelled, windo
 use Rattle.majority_laws.proofs.Lines.{unacted}
 use Rattle.majority_laws.proofs.Shown.{read, sane, shows, sized}
 use Rattle.majority_laws.proofs.Stages.{Any, Close, Empty, Ready, Same, Sane, Stage, Taught, ready_step}
-use Rattle.majority_laws.proofs.Votes.{Shown, between, equal_votes, length_run, mid_is, ready_at, stays_left, three_faces, vote}
+use Rattle.majority_laws.proofs.Votes.{Shown, between, equal_votes, length_run, mid_is, ready_at, stays_left, vote}
+use Rattle.majority_laws.specs.Recovering.{gone_on, shown_in}
 use Rattle.plant_script.specs.Countdown.{no_acts}
 use Rattle.plant_script.specs.Faces.{face}
 use Rattle.plant_script.specs.SingleTexts.{accepts}
@@ -111,11 +112,11 @@ module _ (m : Meaning) (points : List Point) (law : IsMeaning points m) (ls : Le
   v = vote m points ls states faces
 
   -- what a run becomes by the scan
-  abbrev pub then : Run → Run
-  then s = turned (record s { words = (run_on m s v).words })
+  abbrev then : Run → Run
+  then s = gone_on m points ls s
 
   pub then_length : (s : Run) → IsSource m s → length (run_on m s v).words ≡ length s.words
-  then_length s h = length_run m points law v s (voted_fits points (three_faces ls)) h.kept
+  then_length s h = length_run m points law v s (voted_fits points (shown_in ls)) h.kept
 
   pub then_windows : (s : Run) → IsSource m s → run_windows (then s) ≡ run_windows s
   then_windows s h = ap (λ n. windows_of (length s.text + n)) (then_length s h)

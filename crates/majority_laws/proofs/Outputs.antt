@@ -14,7 +14,8 @@ use Rattle.plant_script.specs.Calm.{IsCalm, IsFirstUncalm}
 use Rattle.single_controller.specs.Controller.{controller_in, scanned_at, voted_at}
 use Rattle.majority_laws.specs.Carried.{Carry}
 use Rattle.majority_laws.specs.Majority.{CanBePlayed, IsBefore, note_at}
-use Rattle.majority_laws.proofs.Accounts.{sound_notes, two_note, votes_carried}
+use Rattle.majority_laws.proofs.Accounts.{sound_notes, two_note}
+use Rattle.majority_laws.proofs.EqualVotes.{votes_equal}
 use Rattle.majority_laws.proofs.Controllers.{ready_kept, voted_at_fits}
 
 -- two different legs are two of the three
@@ -62,6 +63,7 @@ pub carried : (m : Meaning) (v : ScriptValue) (scan : ℕ) → CanBePlayed m v �
     → Carry m v scan (note_at m v scan)
 carried m v scan can first last calm =
     let t = two_note m v can scan first last calm in
+    let same = votes_equal m v scan first last (calm scan first (omega arith)).faces in
     let c = controller_in m v scan in
     let k = ready_kept m v can.engine can.texts scan first last in
     let i = voted_at_fits v scan in
@@ -76,8 +78,8 @@ carried m v scan can first last calm =
           t.notes_one.drive_is t.notes_two.drive_is);
       flag = two_flags (λ (x : Leg). (note_at m v scan x).arith) (scanned_at m v scan).flag t.one t.two t.apart
           t.notes_one.flag_is t.notes_two.flag_is;
-      values = λ leg. (votes_carried m v can scan first last calm leg).1;
-      time = λ leg. (votes_carried m v can scan first last calm leg).0;
+      values = same.values;
+      time = same.time;
       verdict = λ leg sound. (sound_notes m v can scan first last calm leg sound).verdict_is;
       drive = λ leg sound. (sound_notes m v can scan first last calm leg sound).drive_is;
       arith = λ leg sound. (sound_notes m v can scan first last calm leg sound).flag_is;

@@ -13,11 +13,11 @@ use Rattle.leg_laws.specs.Closing.{Closed, run_windows}
 use Rattle.leg_laws.specs.States.{IsState, Run, Running, State}
 use Rattle.leg_laws.specs.ThreeScans.{closed_at}
 use Rattle.majority_laws.proofs.Lines.{no_swap_builds, no_swap_bytes, unacted}
-use Rattle.majority_laws.proofs.Nearer.{CanBeTaken, IsSource, kept_ready, kept_step, nearer_stage, then, then_windows}
+use Rattle.majority_laws.proofs.Nearer.{CanBeTaken, IsSource, kept_ready, kept_step, nearer_stage, then_windows}
 use Rattle.majority_laws.proofs.Ring3.{left_left, right_right, three}
 use Rattle.majority_laws.proofs.Stages.{Any, Stage, stage_end}
 use Rattle.majority_laws.proofs.Votes.{Shown, beside_left, beside_right}
-use Rattle.majority_laws.specs.Recovering.{HaveOneRun, IsFair, RecoversFromAnyState, RecoversInTime, played_from}
+use Rattle.majority_laws.specs.Recovering.{IsFair, RecoversFromAnyState, RecoversInTime, going_on, gone_on, played_from}
 use Rattle.plant_script.specs.SingleTexts.{accepts}
 use Rattle.script_text.specs.LegScans.{LegScan, LoadsBytes}
 use Rattle.tri_base.specs.Downloads.{Download}
@@ -36,13 +36,11 @@ refused m (Some d) run e = refused_by m d run (changes m run.text d) e
 
 module _ (m : Meaning) (points : List Point) (law : IsMeaning points m) where
   -- the three legs after some fair scans
-  pub record Beside (x : Leg) (text : List ℕ) (epoch windows n : ℕ) (states : Leg → State) : Type 0 where
-    pub run : Run
+  pub record Beside (x : Leg) (run : Run) (text : List ℕ) (windows n : ℕ) (states : Leg → State) : Type 0 where
     pub left : states (left_of x) ≡ Running run
     pub right : states (right_of x) ≡ Running run
     pub source : IsSource m run
     pub text_is : run.text ≡ text
-    pub epoch_is : run.epoch ≡ epoch
     pub windows_is : windows ≡ run_windows run
     pub kept : IsState m (states x)
     pub stage : Stage m windows run n (states x)
@@ -56,17 +54,16 @@ module _ (m : Meaning) (points : List Point) (law : IsMeaning points m) where
     results = fair.results y;
   }
 
-  next : (x : Leg) (text : List ℕ) (epoch windows n : ℕ) (ls : Leg → LegScan) (states : Leg → State)
-      → IsFair m text ls → Beside x text epoch windows (n + 1) states
-      → Beside x text epoch windows n (λ y. (closed_at m points ls states y).state)
-  next x text epoch windows n ls states fair b =
-      let s : Run = b.run in
+  next : (x : Leg) (s : Run) (text : List ℕ) (windows n : ℕ) (ls : Leg → LegScan) (states : Leg → State)
+      → IsFair m text ls → Beside x s text windows (n + 1) states
+      → Beside x (gone_on m points ls s) text windows n (λ y. (closed_at m points ls states y).state)
+  next x s text windows n ls states fair b =
       let r = refused m (ls A).download s (ap (λ t. accepts m (ls A).download t) b.text_is ∙ fair.refused) in
       let shown : (y : Leg) → states y ≡ Running s → Shown m points ls states fair.faces s r.0 y =
       λ y is. ready_fair ls states text y s fair b.text_is is r.0 r.1 in
       let l : Shown m points ls states fair.faces s r.0 (left_of x) = shown (left_of x) b.left in
       let q : Shown m points ls states fair.faces s r.0 (right_of x) = shown (right_of x) b.right in
-      let s' : Run = then m points law ls states fair.faces s in
+      let s' : Run = gone_on m points ls s in
       let left' : (closed_at m points ls states (left_of x)).state ≡ Running s' =
       ap (λ (c : Closed). c.state) (beside_left m points ls states fair.faces s r.0 (left_of x) l
       (subst (λ (y : Leg). Shown m points ls states fair.faces s r.0 y) (sym (left_left x)) q)) in
@@ -83,7 +80,6 @@ module _ (m : Meaning) (points : List Point) (law : IsMeaning points m) where
       (subst (λ (t : State). IsState m t) (sym b.left) b.source.kept)) in
       let w : run_windows s' ≡ run_windows s = then_windows m points law ls states fair.faces s b.source in
       record {
-        run = s';
         left = left';
         right = right';
         source = record {
@@ -94,7 +90,6 @@ module _ (m : Meaning) (points : List Point) (law : IsMeaning points m) where
           epoch = b.source.epoch;
         };
         text_is = b.text_is;
-        epoch_is = b.epoch_is;
         windows_is = b.windows_is ∙ sym w;
         kept = kept_step m points law ls states x (can x) b.kept;
         stage = nearer_stage m points law ls states fair.faces s r.0 x windows n b.source b.windows_is l q (fair.acts x)
@@ -113,37 +108,32 @@ module _ (m : Meaning) (points : List Point) (law : IsMeaning points m) where
       (left : start (left_of x) ≡ Running s) (right : start (right_of x) ≡ Running s) (kept : IsState m (start x))
       (scans : ℕ)
       (fair : (k : ℕ) → k < scans → IsFair m s.text (ls k)) (enough : 2 * run_windows s ≤ scans) where
-    after : (k n : ℕ) → k + n ≡ scans → Beside x s.text s.epoch (run_windows s) n (played_from m points ls start k)
-    unfolding played_from
+    after : (k n : ℕ) → k + n ≡ scans
+        → Beside x (going_on m points ls s k) s.text (run_windows s) n (played_from m points ls start k)
+    unfolding played_from going_on
     after zero n e =
         record {
-          run = s;
           left = left;
           right = right;
           source = source;
           text_is = refl;
-          epoch_is = refl;
           windows_is = refl;
           kept = kept;
           stage = Any kept (omega (arith, e, enough));
         }
     after (suc k) n e =
-        next x s.text s.epoch (run_windows s) n (ls k) (played_from m points ls start k) (fair k (omega (arith, e)))
-        (after k (n + 1) (omega (arith, e)))
+        next x (going_on m points ls s k) s.text (run_windows s) n (ls k) (played_from m points ls start k)
+        (fair k (omega (arith, e))) (after k (n + 1) (omega (arith, e)))
 
-    -- all three then have one run
-    pub recovered : HaveOneRun s.text s.epoch (played_from m points ls start scans)
+    -- all three then have the run that went on
+    pub recovered : (y : Leg) → played_from m points ls start scans y ≡ Running (going_on m points ls s scans)
     recovered =
         let b = after scans 0 (omega arith) in
+        let r : Run = going_on m points ls s scans in
         let t = source.turn in
-        record {
-          run = b.run;
-          all = three x (λ (y : Leg). played_from m points ls start scans y ≡ Running b.run)
-              (stage_end m (run_windows s) b.run (played_from m points ls start scans x) (omega (arith, t)) b.stage)
-              b.left b.right;
-          text_is = b.text_is;
-          epoch_is = b.epoch_is;
-        }
+        three x (λ (y : Leg). played_from m points ls start scans y ≡ Running r)
+        (stage_end m (run_windows s) r (played_from m points ls start scans x) (omega (arith, t)) b.stage)
+        b.left b.right
 
 pub recovers_from_any_state : RecoversFromAnyState
 recovers_from_any_state m points ls start leg run scans law b enough fair =

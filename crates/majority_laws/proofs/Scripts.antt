@@ -41,7 +41,7 @@ ranged_by : (fits : Bool) (there : Option ℕ) (full : Bool) (name : List ℕ) �
 ranged_by true there full name e = refl
 ranged_by false there full name e = absurd (cc)
 
-all_fit : (before points : List Point) → IsPlant before points → All Fits points
+pub all_fit : (before points : List Point) → IsPlant before points → All Fits points
 all_fit before [] h = All-nil Fits
 all_fit before (p ∷ points) h =
     All-cons Fits p points

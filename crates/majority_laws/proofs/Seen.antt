@@ -1,5 +1,5 @@
 -- What the legs of a script see of a scan.
-use Rattle.std.proofs.Common.{◌≡◌, ℕ, zero, suc, ◌+◌, ◌<◌, Bool, true, false, List, [], ◌∷◌, fold, Option, Some, None, refl, sym, ap, ◌∙◌, arith}
+use Rattle.std.proofs.Common.{◌≡◌, ℕ, zero, suc, ◌+◌, ◌-◌, ◌<◌, ◌≤◌, Bool, true, false, List, [], ◌∷◌, fold, Option, Some, None, refl, sym, ap, ◌∙◌, arith}
 use Rattle.tri_base.specs.declared.leg.Leg.{Leg}
 use Rattle.tri_base.specs.declared.leg.Leg.TheVariants.{A, B, C}
 use Rattle.tri_base.specs.declared.leg.Side.{Side}
@@ -11,7 +11,11 @@ use Rattle.script_text.specs.Moments.{moment_at}
 use Rattle.script_text.specs.ScriptValue.{ScriptValue}
 use Rattle.script_text.specs.LegScans.{LegScan, for_leg, same_leg, scan_of, with_leg_line, with_result, with_shown}
 use Rattle.plant_script.proofs.Plays.{tape_scan}
+use Rattle.input_legs.specs.VotedSheets.{vote_sheet_of}
+use Rattle.single_controller.specs.Controller.{voted_at}
 use Rattle.leg_laws.specs.Plays.{play_of, scan_behind}
+use Rattle.leg_laws.specs.ThreeScans.{scans_behind}
+use Rattle.majority_laws.specs.Recovering.{shown_in}
 
 -- with so many scans behind, a leg sees the next one of the script
 pub seen : (v : ScriptValue) (leg : Leg) (k : ℕ) → k < v.scans → scan_behind (play_of v) leg k ≡ scan_of v leg (suc k)
@@ -23,6 +27,15 @@ seen v leg k low =
     tape A = tape_scan v A (k + 1) (omega arith) (omega (arith, low))
     tape B = tape_scan v B (k + 1) (omega arith) (omega (arith, low))
     tape C = tape_scan v C (k + 1) (omega arith) (omega (arith, low))
+
+-- so a leg sees a scan, counted from 1, and what the three show is voted to what the one controller runs on
+module _ (v : ScriptValue) (scan : ℕ) (first : 1 ≤ scan) (last : scan ≤ v.scans) where
+  pub seen_in : (x : Leg) → scans_behind (play_of v) (scan - 1) x ≡ scan_of v x scan
+  seen_in x =
+      seen v x (scan - 1) (omega (arith, first, last)) ∙ ap (λ (n : ℕ). scan_of v x n) (omega (arith, first))
+
+  pub voted_in : vote_sheet_of v.points (shown_in (scans_behind (play_of v) (scan - 1))) ≡ voted_at v scan
+  voted_in = λ i. vote_sheet_of v.points (shown_in (λ (x : Leg). seen_in x i))
 
 -- ---- a download is the same for each leg
 

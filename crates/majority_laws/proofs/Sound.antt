@@ -28,7 +28,8 @@ use Rattle.majority_laws.specs.Majority.{CanBePlayed}
 use Rattle.majority_laws.specs.Sound.{IsUnchanged, good_ending}
 use Rattle.majority_laws.specs.CalmPlays.{HasNoFaults, HasTwoSound, IsUndisturbed}
 use Rattle.majority_laws.proofs.Countdown.{IsQuiet, accepted_in, count_next, count_start, quiet, two_sound, windows_after}
-use Rattle.majority_laws.proofs.Track.{good_before, good_shown, quiet_here, run_stays, sound_good, track, tracked_before}
+use Rattle.majority_laws.proofs.GoodRuns.{run_stays}
+use Rattle.majority_laws.proofs.Track.{good_before, good_shown, quiet_here, sound_good, track, tracked_before}
 
 pub sound_is_good : (m : Meaning) (v : ScriptValue) (scans : ℕ) → CanBePlayed m v → scans ≤ v.scans → IsCalm m v scans
     → (leg : Leg) → IsSound m v leg scans → IsGood m v scans (state_after m (play_of v) scans leg)
@@ -79,7 +80,7 @@ refused_unchanged m v scan can first last calm r e = record {
       ∙ not_accepted m (download_at v scan) (controller_after m v (scan - 1)) r e in
       h.ready
       ∙ (λ i. record {
-        state = Running (run_stays m v can scan first last calm_here no i);
+        state = Running (run_stays m v scan no i);
         verdict = told (e i);
       })
       ∙ (λ i. record { state = sym g.0 i; verdict = Some (Refused r) });

@@ -1,7 +1,7 @@
 -- While all scans are calm, a sound leg is good, and a suspect one as many scans from it as it counts.
 use Rattle.std.proofs.Common.{◌≡◌, ℕ, zero, suc, ◌+◌, ◌-◌, ◌*◌, ◌<◌, ◌≤◌, ⊎_elim, false, Option, refl, sym, ap, subst, ◌∙◌, arith}
 use Rattle.tri_base.specs.declared.leg.Leg.{Leg}
-use Rattle.tri_base.specs.declared.leg.Leg.TheVariants.{A, B, C}
+use Rattle.tri_base.specs.declared.leg.Leg.TheVariants.{A}
 use Rattle.tri_base.specs.declared.leg.Side.TheVariants.{Left, Right}
 use Rattle.tri_base.specs.Legs.{left_of, right_of}
 use Rattle.tri_base.specs.Downloads.{Download}
@@ -28,16 +28,18 @@ use Rattle.leg_laws.proofs.KeptStates.{states_kept}
 use Rattle.leg_laws.proofs.Scans.{next_scan}
 use Rattle.majority_laws.specs.Carried.{told}
 use Rattle.majority_laws.specs.Majority.{CanBePlayed}
+use Rattle.majority_laws.specs.Recovering.{shown_in}
 use Rattle.majority_laws.specs.Standing.{run_in, run_of}
-use Rattle.majority_laws.proofs.Controllers.{IsKept, controller_epoch, controller_kept, first_good, good_next, run_changed, run_kept, since_by, some_windows, turn_of_run, windows_of_run}
-use Rattle.majority_laws.proofs.Countdown.{Fell, IsQuiet, accepted_in, controller_stays, count_next, count_start, quiet, refuses, text_stays, to_some, to_zero, two_sound, windows_after}
+use Rattle.majority_laws.proofs.Controllers.{IsKept, controller_epoch, controller_kept, first_good, good_next, run_changed, since_by, some_windows, windows_of_run}
+use Rattle.majority_laws.proofs.Countdown.{Fell, IsQuiet, accepted_in, count_next, count_start, quiet, refuses, text_stays, to_some, to_zero, two_sound, windows_after}
+use Rattle.majority_laws.proofs.GoodRuns.{good_source, run_stays}
 use Rattle.majority_laws.proofs.Lines.{unacted}
-use Rattle.majority_laws.proofs.Nearer.{CanBeTaken, IsSource, kept_ready, nearer_stage}
+use Rattle.majority_laws.proofs.Nearer.{CanBeTaken, kept_ready, nearer_stage}
 use Rattle.majority_laws.proofs.Numbers.{of_scan}
 use Rattle.majority_laws.proofs.Ring3.{left_left, right_right, three}
-use Rattle.majority_laws.proofs.Seen.{seen, shared}
+use Rattle.majority_laws.proofs.Seen.{seen_in, shared, voted_in}
 use Rattle.majority_laws.proofs.Stages.{Any, Stage, stage_end}
-use Rattle.majority_laws.proofs.Votes.{Shown, beside_left, beside_right, three_faces}
+use Rattle.majority_laws.proofs.Votes.{Shown, beside_left, beside_right}
 
 starts : (m : Meaning) (v : ScriptValue) (x : Leg) → state_after m (play_of v) 0 x ≡ first_state m v.text
 unfolding in_step
@@ -73,15 +75,10 @@ module _ (m : Meaning) (v : ScriptValue) (can : CanBePlayed m v) where
     behind = scan - 1
 
     pub seen_here : (x : Leg) → seen_at behind x ≡ scan_of v x scan
-    seen_here x =
-        seen v x behind (omega (arith, first, last)) ∙ ap (λ (n : ℕ). scan_of v x n) (omega (arith, first))
+    seen_here x = seen_in v scan first last x
 
-    pub voted_here : vote_sheet_of v.points (three_faces (seen_at behind)) ≡ voted_at v scan
-    voted_here = λ i. vote_sheet_of v.points (record {
-      a = face Right (seen_here A i);
-      b = face Right (seen_here B i);
-      c = face Right (seen_here C i);
-    })
+    pub voted_here : vote_sheet_of v.points (shown_in (seen_at behind)) ≡ voted_at v scan
+    voted_here = voted_in v scan first last
 
     pub next_state : (x : Leg) → states_at scan x ≡ (closed_at m v.points (seen_at behind) (states_at behind) x).state
     next_state x =
@@ -145,7 +142,7 @@ module _ (m : Meaning) (v : ScriptValue) (can : CanBePlayed m v) where
           }
 
       turned_here : Running (turned (record (run_in m v scan) {
-        words = (run_on m (run_in m v scan) (vote_sheet_of v.points (three_faces (seen_at behind)))).words;
+        words = (run_on m (run_in m v scan) (vote_sheet_of v.points (shown_in (seen_at behind)))).words;
       })) ≡ Running (good_run m v scan)
       turned_here =
           ap (λ (w : VotedSheet). Running
@@ -168,17 +165,6 @@ module _ (m : Meaning) (v : ScriptValue) (can : CanBePlayed m v) where
           (run_in m v scan) (told (verdict_at m v scan)) x h l)
           ∙ turned_here
 
-      pub run_stays : accepted_in m v scan ≡ false → run_in m v scan ≡ good_run m v behind
-      run_stays e = λ i. run_of m (controller_stays m v scan e i) (since_by (e i) (scans_since m v behind))
-
-      source_here : IsSource m (good_run m v behind)
-      source_here = record {
-        kept = run_kept m v.points can.engine (controller_after m v behind) (scans_since m v behind) kept_here
-            (let e = epoch_here in omega (arith, e));
-        turn = turn_of_run m v.points can.engine (controller_after m v behind) (scans_since m v behind) kept_here;
-        epoch = epoch_here;
-      }
-
       -- the third leg, where its count fell
       fallen : (z : Leg) (c : ℕ) → Tracked behind z
           → Fell (is_quiet (scan_of v z scan)) (accepted_in m v scan) (recovery_countdown m v z behind) c
@@ -186,7 +172,7 @@ module _ (m : Meaning) (v : ScriptValue) (can : CanBePlayed m v) where
           → Stage m (windows_after m v scan) (good_run m v scan) c (states_at scan z)
       fallen z c t f l r =
           let s : Run = good_run m v behind in
-          let stay : run_in m v scan ≡ s = run_stays f.accepted_is in
+          let stay : run_in m v scan ≡ s = run_stays m v scan f.accepted_is in
           let q : IsQuiet (seen_at behind z) =
           subst IsQuiet (sym (seen_here z)) (quiet (scan_of v z scan) f.quiet_is) in
           let d : (seen_at behind z).download ≡ download_at v scan =
@@ -199,7 +185,8 @@ module _ (m : Meaning) (v : ScriptValue) (can : CanBePlayed m v) where
           kept_here) in
           let n1 : recovery_countdown m v z behind ≡ suc (c + 1) = f.from ∙ omega arith in
           let stage = nearer_stage m v.points can.engine (seen_at behind) (states_at behind) faces_here s
-          (told (verdict_at m v scan)) z (windows_after m v behind) c source_here w
+          (told (verdict_at m v scan)) z (windows_after m v behind) c
+          (good_source m v can behind (omega (arith, first, last))) w
           (subst (λ (u : Run). ShownWith u (left_of z)) stay l) (subst (λ (u : Run). ShownWith u (right_of z)) stay r)
           q.acts refused
           (kept_ready m v.points can.engine (seen_at behind) (states_at behind) z (can_take behind z)
@@ -208,7 +195,7 @@ module _ (m : Meaning) (v : ScriptValue) (can : CanBePlayed m v) where
           let w' : windows_after m v behind ≡ windows_after m v scan =
           ap (λ t. program_windows m t) (sym (text_stays m v scan first f.accepted_is)) in
           let s' : turned (record s {
-            words = (run_on m s (vote_sheet_of v.points (three_faces (seen_at behind)))).words;
+            words = (run_on m s (vote_sheet_of v.points (shown_in (seen_at behind)))).words;
           }) ≡ good_run m v scan =
           (λ i. turned (record (sym stay i) { words = (run_on m (sym stay i) (voted_here i)).words }))
           ∙ good_next m v can.engine can.texts scan first last in

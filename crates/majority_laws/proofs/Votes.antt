@@ -6,7 +6,6 @@ use Rattle.tri_base.specs.declared.leg.Leg.{Leg}
 use Rattle.tri_base.specs.declared.leg.Leg.TheVariants.{A, B, C}
 use Rattle.tri_base.specs.declared.leg.Side.{Side}
 use Rattle.tri_base.specs.declared.leg.Side.TheVariants.{Left, Right}
-use Rattle.tri_base.specs.declared.leg.Triple.{Triple}
 use Rattle.tri_base.specs.declared.point.Point.{Point}
 use Rattle.tri_base.specs.Legs.{left_of, right_of}
 use Rattle.engine_face.specs.Laws.{IsMeaning}
@@ -23,7 +22,7 @@ use Rattle.leg_packet.specs.Sheets.{IsSized, Sheet, sheet_of, spelled}
 use Rattle.majority_laws.proofs.Shown.{shows, sized}
 use Rattle.leg_packet.proofs.Spelling.{spelled_same}
 use Rattle.majority_laws.proofs.Stages.{Goes, Shows}
-use Rattle.majority_laws.specs.Recovering.{OwnResults}
+use Rattle.majority_laws.specs.Recovering.{OwnResults, shown_in}
 use Rattle.memory_compare.specs.Judging.{judge_of, judged_by, same_words}
 use Rattle.memory_compare.specs.declared.judging.Judgement.{Judgement}
 use Rattle.memory_compare.specs.declared.judging.Judgement.TheVariants.{Agrees, Minority}
@@ -142,16 +141,13 @@ module _ (m : Meaning) (g : Sheet) (is_sized : IsSized g) (read : sheet_of (spel
 
 -- ---- the vote of each leg is that of the three right faces
 
-abbrev pub three_faces : (Leg → LegScan) → Triple (List ℤ)
-three_faces ls = record { a = face Right (ls A); b = face Right (ls B); c = face Right (ls C) }
-
 abbrev pub ready_at : Meaning → (Leg → LegScan) → (Leg → State) → Leg → Prepared
 ready_at m ls states x = prepared m (ls x) (states x)
 
 pub equal_votes : (m : Meaning) (points : List Point) (ls : Leg → LegScan) (states : Leg → State)
     → ((x : Leg) → face Left (ls x) ≡ face Right (ls x)) → (x : Leg)
     → half_at m points ls states x
-    ≡ half_of m (vote_sheet_of points (three_faces ls)) (ready_at m ls states x).verdict (ready_at m ls states x).state
+    ≡ half_of m (vote_sheet_of points (shown_in ls)) (ready_at m ls states x).verdict (ready_at m ls states x).state
 unfolding half_scan
 equal_votes m points ls states faces A =
     λ i. half_of m (vote_sheet_of points (record { a = face Right (ls A); b = faces B i; c = face Right (ls C) }))
@@ -168,7 +164,7 @@ equal_votes m points ls states faces C =
 module _ (m : Meaning) (points : List Point) (ls : Leg → LegScan) (states : Leg → State)
     (faces : (x : Leg) → face Left (ls x) ≡ face Right (ls x)) where
   abbrev pub vote : VotedSheet
-  vote = vote_sheet_of points (three_faces ls)
+  vote = vote_sheet_of points (shown_in ls)
 
   -- a leg that is ready with a run, and puts its own result
   pub record Shown (run : Run) (verdict : Option Verdict) (x : Leg) : Type 0 where
@@ -234,4 +230,4 @@ module _ (m : Meaning) (points : List Point) (ls : Leg → LegScan) (states : Le
       let p : Prepared = ready_at m ls states x in
       subst (λ (c : Closed). Goes m (ls x) g p.state c.state)
       (λ i. closed m x (ls x) (sym (equal_votes m points ls states faces x) i) (sym l i) (sym r i))
-      (third m g sz rd points law x (ls x) vote p.verdict p.state (voted_fits points (three_faces ls)) kept)
+      (third m g sz rd points law x (ls x) vote p.verdict p.state (voted_fits points (shown_in ls)) kept)

@@ -71,5 +71,6 @@ pub record HaveCarried (m : Meaning) (v : ScriptValue) (legs : Leg → LegValue)
 abbrev pub SettledLegsCarry : Type 0
 SettledLegsCarry =
     (m : Meaning) (v : ScriptValue) (legs : Leg → LegValue) (ls : Leg → SentTaken)
-    (left : Leg → Side → List (List ℤ)) → CanBePlayed m v → HaveFollowed m (play_of v) legs ls → IsSettled ls left
+    (remaining : Leg → Side → List (List ℤ)) → CanBePlayed m v → HaveFollowed m (play_of v) legs ls
+    → IsSettled ls remaining
     → NoneStarved legs → HaveCarried m v legs

@@ -1,4 +1,5 @@
 pub mod Recovering
+pub mod RecoveringToGood
 pub mod Standing
 pub mod Carried
 pub mod Majority
@@ -7,5 +8,7 @@ pub mod Sound
 pub mod CalmPlays
 pub mod Between
 pub mod Exchanging
+pub mod EqualVotes
 pub mod Scripts
 pub mod WorkedPlay
+pub mod WorkedRecovery
