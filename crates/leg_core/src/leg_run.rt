@@ -81,6 +81,7 @@ impl<E: Engine> Model for LegRun<E> {
 impl<E: Engine> LegRun<E> {
     ghost use Rattle.std.specs.Prelude.{◌≡◌, ◌<◌, ◌↔◌, true, false, None, IsTrue, length, map, option_map, slice_index_or, IfOk};
     ghost use Rattle.tri_base.specs.Legs.{leg_part};
+    ghost use Rattle.chassis.specs.Points.{inputs_of};
     ghost use Rattle.fault_history.specs.Notes.{ending_data, note_data};
     ghost use Rattle.input_legs.specs.Marks.{mark_count, no_row};
     ghost use Rattle.leg_laws.specs.declared.need.Need.TheVariants.{Put, Take};
@@ -90,10 +91,11 @@ impl<E: Engine> LegRun<E> {
     ghost use Rattle.leg_laws.specs.ExchangeSteps.{Puts, Takes, leg_at_start};
     ghost use Rattle.leg_laws.specs.NeedsOfMemory.{put_builds, take_builds};
     ghost use Rattle.leg_laws.specs.Plays.{Play};
-    ghost use Rattle.leg_core.specs.Calls.{ReadsInputs, TakesNote};
+    ghost use Rattle.leg_core.specs.Calls.{ReadsInputs, TakesNote, scan_begun};
 
     /// A leg before its first scan, with room for all that its scans need; only what builds a
-    /// program takes memory later. At NoMemory the arguments are dropped.
+    /// program takes memory later. A SWAP text that doesn't build leaves the leg starved, as want
+    /// of memory does. At NoMemory the arguments are dropped.
     pub fn start(
         alloc: Global,
         leg: Leg,
@@ -112,7 +114,7 @@ impl<E: Engine> LegRun<E> {
         let points = chassis.points();
         let inputs = input_count(points);
         let outputs = output_count(points);
-        // A tape has few scans.
+        // The number of a tape's scans has 32 bits, so that of the finished ones has.
         let _scans = tape.scans();
         let marks = Discrepancy::new(alloc, &chassis)?;
         let log = Log::new(alloc, &tape, inputs, outputs)?;
@@ -149,6 +151,31 @@ impl<E: Engine> LegRun<E> {
             return need_at(self.place);
         }
         Need::Done
+    }
+
+    /// Which leg it is.
+    pub fn leg(&self) -> Leg
+        ensures { result ≡ self.now.leg }
+    {
+        self.leg
+    }
+
+    /// How many scans it plays.
+    pub fn scans(&self) -> u32
+        ensures { result ≡ length self.now.tape.scans }
+    {
+        self.tape.scans()
+    }
+
+    /// The scan that the leg begins with its next need, counted from 1; None within a scan, and
+    /// behind the last one.
+    pub fn scan_begun(&self) -> Option<u32>
+        ensures { result ≡ scan_begun self.now }
+    {
+        match self.place {
+            Place::PutLeftReadings if self.finished < self.tape.scans() => Some(self.finished + 1),
+            _ => None,
+        }
     }
 
     /// The packet that the leg puts on a side, where that is its need. Only the first put of a scan
@@ -218,7 +245,7 @@ impl<E: Engine> LegRun<E> {
 
     /// Whether a leg has a mark at the input at a place in chassis order.
     pub fn marked(&self, leg: Leg, point: usize) -> bool
-        requires { point < length self.now.marks }
+        requires { point < length (inputs_of self.now.points) }
         ensures { IsTrue result
             ↔ (leg_part (slice_index_or self.now.marks point no_row) leg ≡ mark_count) }
     {

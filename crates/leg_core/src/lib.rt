@@ -5,4 +5,6 @@
 pub mod laws;
 mod leg_run;
 
+pub use fault_history::{Ending, Note};
+pub use leg_laws::Need;
 pub use leg_run::LegRun;

@@ -17,3 +17,7 @@ pub record StopsAt (m : List Point → Meaning) (w w' : Exchange) (letters : Lis
 abbrev pub Follows : (List Point → Meaning) → (w w' : Exchange) → List Leg → Option ℕ → Type 0
 Follows m w w' letters None = Reaches m w letters w'
 Follows m w w' letters (Some place) = StopsAt m w w' letters place
+
+-- Some steps lead from an exchange to another.
+abbrev pub LeadsTo : (List Point → Meaning) → (w w' : Exchange) → Type 0
+LeadsTo m w w' = (steps : List Leg) × Reaches m w steps w'

@@ -50,7 +50,7 @@ impl<E: Engine> Lockstep<E> {
     ghost use Rattle.leg_laws.specs.Configs.{need_of};
     ghost use Rattle.leg_laws.specs.Exchanges.{AllDone, can_step, first_enabled};
     ghost use Rattle.leg_laws.specs.ExchangeSteps.{ExchangeStep};
-    ghost use Rattle.lockstep.specs.Following.{Follows};
+    ghost use Rattle.lockstep.specs.Following.{Follows, LeadsTo};
     ghost use Rattle.lockstep.specs.Refusals.{is_put};
     ghost use Rattle.lockstep.specs.Starting.{AreAtStart, no_packets};
 
@@ -113,7 +113,7 @@ impl<E: Engine> Lockstep<E> {
         }
     }
 
-    /// The legs take turns by these letters. None where all were stepped; else the place, from 0, of
+    /// The legs take turns by these letters. None where all were stepped; else the place from 0 of
     /// the first whose leg can't step there, and then the legs stand before it.
     pub fn follow(&mut self, letters: &[Leg]) -> Option<usize>
         ensures { Follows E.meaning self.old self.new letters.now result }
@@ -140,6 +140,18 @@ impl<E: Engine> Lockstep<E> {
             Some(Leg::C)
         } else {
             None
+        }
+    }
+
+    /// Step by step, of the legs whose step is enabled the first goes on, until all are done.
+    pub fn run(&mut self)
+        ensures goes { LeadsTo E.meaning self.old self.new }
+        ensures done { AllDone self.new }
+    {
+        'steps: while let Some(leg) = self.next_leg() {
+            if self.step(leg).is_err() {
+                unreachable!();
+            }
         }
     }
 
