@@ -1,0 +1,4 @@
+pub mod Growing
+pub mod Starting
+pub mod Ended
+pub mod Written

@@ -1,0 +1,6 @@
+pub mod Told
+pub mod Marks
+pub mod Tables
+pub mod LegsReport
+pub mod Played
+pub mod Starved
