@@ -1,0 +1,9 @@
+pub mod Ended
+pub mod Handed
+pub mod Heard
+pub mod Here
+pub mod Kept
+pub mod OneNeed
+pub mod Printed
+pub mod Rows
+pub mod Told

@@ -1,0 +1,4 @@
+pub mod Inner
+pub mod Playing
+pub mod Printing
+pub mod Working
