@@ -1,0 +1,4 @@
+pub mod Framed
+pub mod Lengths
+pub mod Steps
+pub mod Values

@@ -1,0 +1,5 @@
+pub mod Finding
+pub mod Growing
+pub mod Logs
+pub mod Walking
+pub mod Whole

@@ -1,0 +1,19 @@
+-- Nobody has to believe what stands here: it serves private functions alone.
+-- A scan's changes, once its time is there.
+use Rattle.std.specs.Prelude.{ℕ, ℤ, ◌+◌, ◌-◌, ◌++◌, List, length, take}
+use Rattle.soe_log.specs.declared.event.Event.{Event}
+use Rattle.soe_log.specs.Changes.{changed_of, values_of}
+use Rattle.soe_log.specs.Recording.{RecorderData, event_limit}
+
+abbrev pub events_noted : RecorderData → ℕ → (inputs outputs : List ℤ) → List Event
+events_noted r scan inputs outputs =
+    r.events ++ changed_of r.points r.last scan r.time (values_of r.points inputs outputs)
+
+abbrev pub points_noted : RecorderData → ℕ → (inputs outputs : List ℤ) → RecorderData
+points_noted r scan inputs outputs = record {
+  points = r.points;
+  time = r.time;
+  last = values_of r.points inputs outputs;
+  events = take event_limit (events_noted r scan inputs outputs);
+  lost = r.lost + (length (events_noted r scan inputs outputs) - event_limit);
+}

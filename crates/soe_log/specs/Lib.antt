@@ -1,0 +1,5 @@
+pub mod Changes
+pub mod EventText
+pub mod Inner
+pub mod Plays
+pub mod Recording
