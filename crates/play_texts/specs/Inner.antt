@@ -1,0 +1,3 @@
+-- Nobody has to believe what stands in this folder: it serves private functions alone.
+pub mod Noted
+pub mod Sums
