@@ -1,0 +1,12 @@
+use Rattle.std.proofs.Common.{◌≡◌, ◌++◌, length}
+use Rattle.std.specs.List.{flat_map}
+use Rattle.cause_effect.specs.Programs.{declaration_line}
+use Rattle.cause_effect.proofs.program.push_effect_names.Given as goal
+
+-- what is written, and what is left, is all
+abbrev pub invariant-effects : goal.invariant-effects
+invariant-effects l =
+    l.text.list ++ flat_map (λ e. declaration_line e.0) l.rest ≡ l.fn.text.list ++ flat_map (λ e. declaration_line e.0) l.matrix.effects
+
+abbrev pub decreases-effects : goal.decreases-effects
+decreases-effects l = length l.rest

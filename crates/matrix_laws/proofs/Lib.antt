@@ -1,0 +1,10 @@
+pub mod Chunks
+pub mod Costs
+pub mod Inputs
+pub mod Meant
+pub mod Names
+pub mod Said
+pub mod Scanned
+pub mod Trees
+pub mod Typed
+pub mod Written
