@@ -1,25 +1,49 @@
-ghost use Rattle.std.specs.Prelude.{◌≡◌, ◌++◌, None, OnOk};
-ghost use Rattle.std.specs.List.{All};
-ghost use Rattle.chassis.specs.Ranges.{HoldsZero};
-ghost use Rattle.script_commands.specs.Outputs.{output_of};
-ghost use Rattle.script_commands.specs.Playing.{IsPlayed};
-
-use check_report::write_check;
-use controller_report::{write_solo, write_solo_summary};
-use engine_face::{Engine, Refusal};
-use plant_script::{Script, first_refused};
-use std::alloc::Global;
-use tri_base::{NoMemory, Text};
+use engine_face::Refusal;
+use tri_base::Text;
 
 /// A command that reads a script.
 #[derive(Clone, Copy, Debug, PartialEq, Eq)]
 pub enum ScriptCommand {
-    /// The one controller's report.
+    /// One of the one controller without faults.
+    Single(SingleCommand),
+    /// The report of three legs that are played step by step.
+    Step,
+    /// One of three legs that play on three threads.
+    Play(PlayCommand),
+}
+
+/// A command that plays or checks the one controller.
+#[derive(Clone, Copy, Debug, PartialEq, Eq)]
+pub enum SingleCommand {
+    /// Its report.
     Solo,
     /// The summary of it.
     SoloSummary,
     /// The sizes of the program and of each download, or why it is refused.
     Check,
+}
+
+/// A command that plays three legs on three threads.
+#[derive(Clone, Copy, Debug, PartialEq, Eq)]
+pub enum PlayCommand {
+    /// Their report.
+    Report,
+    /// The summary of it.
+    Summary,
+    /// The changes of the discrete points, in order.
+    Events,
+    /// The replies to the Modbus requests.
+    Modbus,
+}
+
+/// What a command writes of a script.
+#[derive(Drop)]
+pub struct Output {
+    /// The text.
+    pub text: Text,
+    /// Of three legs the first scan that isn't calm, from 1; None where all are, and for the
+    /// one controller.
+    pub uncalm: Option<u32>,
 }
 
 /// Why nothing is written of a script.
@@ -32,52 +56,11 @@ pub enum Refused {
         /// Why it is none.
         refusal: Refusal,
     },
+    /// The leg of this letter of the schedule, counted from 1, can't step there.
+    Stuck {
+        /// The letter's number.
+        letter: u64,
+    },
     /// There is no memory.
     NoMemory,
-}
-
-#[tactic(auto, using(crate::proofs::Firsts::text_builds))]
-/// What a command writes of a script; or the first of its TEXT and SWAP blocks that the engine
-/// doesn't build. The engine is over the script's points.
-pub fn play<E: Engine>(
-    alloc: Global,
-    command: ScriptCommand,
-    engine: &E,
-    script: &Script,
-) -> Result<Text, Refused>
-    requires zeros { All HoldsZero (E.points engine.now) }
-    requires points { E.points engine.now ≡ script.now.value.points }
-    ensures { IsPlayed command (E.meaning (E.points engine.now)) script.now result }
-{
-    match first_refused(alloc, script, engine) {
-        Ok(None) => {}
-        Ok(Some((line, refusal))) => return Err(Refused::Block { line, refusal }),
-        Err(NoMemory) => return Err(Refused::NoMemory),
-    }
-    let mut text = Text::new(alloc);
-    match write(alloc, command, engine, script, &mut text) {
-        Ok(()) => Ok(text),
-        Err(NoMemory) => Err(Refused::NoMemory),
-    }
-}
-
-/// Adds what a command writes of a script whose text builds.
-fn write<E: Engine>(
-    alloc: Global,
-    command: ScriptCommand,
-    engine: &E,
-    script: &Script,
-    text: &mut Text,
-) -> Result<(), NoMemory>
-    requires zeros { All HoldsZero (E.points engine.now) }
-    requires points { E.points engine.now ≡ script.now.value.points }
-    requires builds { (E.meaning (E.points engine.now)).builds script.now.value.text ≡ None }
-    ensures { OnOk result (text.new.list ≡ text.old.list
-        ++ output_of command (E.meaning (E.points engine.now)) script.now.value) }
-{
-    match command {
-        ScriptCommand::Solo => write_solo(alloc, engine, script, text),
-        ScriptCommand::SoloSummary => write_solo_summary(alloc, engine, script, text),
-        ScriptCommand::Check => write_check(alloc, engine, script, text),
-    }
 }

@@ -1,5 +1,11 @@
+mod Fronts
 mod Spelled
+mod Drawn
+mod ByCommand
 mod Runs
 mod Complete
 mod Words
 mod Joined
+mod Headline
+mod Outcomes
+mod Unspelled

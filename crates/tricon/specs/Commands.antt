@@ -4,9 +4,10 @@ use Rattle.std.specs.Str.{bytes_eq}
 use Rattle.tri_base.specs.Limits.{scan_limit}
 use Rattle.tri_base.specs.Numbers.{size_of}
 use Rattle.tri_base.specs.Rows.{TextValue}
-use Rattle.script_commands.specs.declared.script_command.ScriptCommand.TheVariants.{Solo, SoloSummary, Check}
+use Rattle.script_commands.specs.declared.script_command.ScriptCommand.TheVariants.{Single, Step}
+use Rattle.script_commands.specs.declared.script_command.SingleCommand.TheVariants.{Solo, SoloSummary, Check}
 use Rattle.tricon.specs.declared.command.Command.{Command}
-use Rattle.tricon.specs.declared.command.Command.TheVariants.{Script, Make}
+use Rattle.tricon.specs.declared.command.Command.TheVariants.{Script, Matrix, Make}
 
 -- The bytes of words.
 abbrev pub bytes_of : List TextValue → List (List ℕ)
@@ -16,17 +17,21 @@ bytes_of words = map (λ (word : TextValue). word.list) words
 abbrev pub number_limit : ℕ
 number_limit = 4294967295
 
--- `solo` and `check`.
+-- `solo`, `check`, `step` and `matrix`.
 abbrev pub one_word : List ℕ → Option Command
 one_word word =
-    if bytes_eq word (codes "solo") then Some (Script Solo)
-    else if bytes_eq word (codes "check") then Some (Script Check)
+    if bytes_eq word (codes "solo") then Some (Script (Single Solo))
+    else if bytes_eq word (codes "check") then Some (Script (Single Check))
+    else if bytes_eq word (codes "step") then Some (Script Step)
+    else if bytes_eq word (codes "matrix") then Some Matrix
     else None
 
 -- `solo summary`.
 abbrev pub two_words : List ℕ → List ℕ → Option Command
 two_words word second =
-    if bytes_eq word (codes "solo") && bytes_eq second (codes "summary") then Some (Script SoloSummary) else None
+    if bytes_eq word (codes "solo") && bytes_eq second (codes "summary")
+    then Some (Script (Single SoloSummary))
+    else None
 
 -- A number where it lies from `least` to `most`.
 abbrev pub within : (least most : ℕ) → Option ℕ → Option ℕ

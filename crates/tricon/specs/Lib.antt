@@ -2,4 +2,5 @@ pub mod Commands
 pub mod Statuses
 pub mod CommandRuns
 pub mod Readings
+pub mod Headline
 pub mod Inner

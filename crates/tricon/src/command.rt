@@ -1,8 +1,10 @@
-ghost use Rattle.std.specs.Prelude.{◌≡◌, map};
-ghost use Rattle.tri_base.specs.Rows.{TextValue};
-ghost use Rattle.tricon.specs.Commands.{command_of, one_word, two_words, make_of, number_within};
+ghost use Rattle.std.specs.Prelude.{◌≡◌, ◌≢◌, Some};
+ghost use Rattle.script_commands.specs.declared.script_command.PlayCommand.{PlayCommand};
+ghost use Rattle.script_commands.specs.declared.script_command.ScriptCommand.TheVariants.{Single, Play};
+ghost use Rattle.tricon.specs.declared.command.Command.TheVariants.{Script};
+ghost use Rattle.tricon.specs.Commands.{bytes_of, command_of, one_word, two_words, make_of, number_within};
 
-use script_commands::ScriptCommand;
+use script_commands::{ScriptCommand, SingleCommand};
 use tri_base::{SCAN_LIMIT, Text, read_number};
 
 /// What the program is asked to do.
@@ -10,6 +12,8 @@ use tri_base::{SCAN_LIMIT, Text, read_number};
 pub enum Command {
     /// To read a script, and to write what this command makes of it.
     Script(ScriptCommand),
+    /// To read a cause and effect matrix, and to write its program.
+    Matrix,
     /// To write a generated script.
     Make {
         /// The number that decides what the inputs read.
@@ -21,7 +25,8 @@ pub enum Command {
 
 /// The command that words are, or None.
 pub(crate) fn read_command(words: &[Text]) -> Option<Command>
-    ensures { result ≡ command_of (map (λ (word : TextValue). word.list) words.now) }
+    ensures command { result ≡ command_of (bytes_of words.now) }
+    ensures no_play { (play : PlayCommand) → result ≢ Some (Script (Play play)) }
 {
     match words {
         [word] => read_one(word.bytes()),
@@ -33,12 +38,17 @@ pub(crate) fn read_command(words: &[Text]) -> Option<Command>
 
 /// The command of one word.
 fn read_one(word: &[u8]) -> Option<Command>
-    ensures { result ≡ one_word word.now }
+    ensures command { result ≡ one_word word.now }
+    ensures no_play { (play : PlayCommand) → result ≢ Some (Script (Play play)) }
 {
     if word == b"solo".as_slice() {
-        Some(Command::Script(ScriptCommand::Solo))
+        Some(single(SingleCommand::Solo))
     } else if word == b"check".as_slice() {
-        Some(Command::Script(ScriptCommand::Check))
+        Some(single(SingleCommand::Check))
+    } else if word == b"step".as_slice() {
+        Some(Command::Script(ScriptCommand::Step))
+    } else if word == b"matrix".as_slice() {
+        Some(Command::Matrix)
     } else {
         None
     }
@@ -46,18 +56,27 @@ fn read_one(word: &[u8]) -> Option<Command>
 
 /// The command of two words.
 fn read_two(word: &[u8], second: &[u8]) -> Option<Command>
-    ensures { result ≡ two_words word.now second.now }
+    ensures command { result ≡ two_words word.now second.now }
+    ensures no_play { (play : PlayCommand) → result ≢ Some (Script (Play play)) }
 {
     if word == b"solo".as_slice() && second == b"summary".as_slice() {
-        Some(Command::Script(ScriptCommand::SoloSummary))
+        Some(single(SingleCommand::SoloSummary))
     } else {
         None
     }
 }
 
+/// A command of the one controller.
+fn single(command: SingleCommand) -> Command
+    ensures { result ≡ Script (Single command) }
+{
+    Command::Script(ScriptCommand::Single(command))
+}
+
 /// The command `make`, with its two numbers.
 fn read_make(word: &[u8], number: &[u8], scans: &[u8]) -> Option<Command>
-    ensures { result ≡ make_of word.now number.now scans.now }
+    ensures command { result ≡ make_of word.now number.now scans.now }
+    ensures no_play { (play : PlayCommand) → result ≢ Some (Script (Play play)) }
 {
     if word != b"make".as_slice() {
         return None;

@@ -1,13 +1,18 @@
 //! The commands of the controller: its words, what each reads and writes, and how it ends.
 #![tactic(auto)]
 
+mod at_desk;
 mod cause;
 mod command;
-mod commands;
+pub mod laws;
+mod making;
+mod players;
+mod running;
 mod status;
 
+pub use at_desk::desk;
+pub use cause_effect::MatrixCause;
 pub use command::Command;
-pub use commands::desk;
 pub use plant_script::ScriptCause;
 pub use status::{RefusedCause, Status, status_line};
 

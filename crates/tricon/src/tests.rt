@@ -24,6 +24,21 @@ const REPORT: &str = "TRICON SOLO 1\n\
     SCAN 3\nVERDICT REFUSED SYNTAX 3\nIN 100 0\nOUT 1 0\nARITH 1\n\
     FINAL 1 1 32767\nEND\n";
 
+// One scan, in which leg B's reading of START differs.
+const ONE_SCAN: &str = "TRICON 1\nPOINT DI START\nPOINT DO PUMP\nTEXT\n\
+    PROGRAM P\nVAR_EXTERNAL START, PUMP : BOOL; END_VAR\nPUMP := START;\nEND_PROGRAM\nENDTEXT\n\
+    SCHEDULE AB\nSCHEDULE BACC\nSCANS 1\nAT 1\nSET START 1 0 1\nEND\n";
+
+// The same where leg A puts a third packet before the second is taken.
+const STUCK: &str = "TRICON 1\nPOINT DI START\nPOINT DO PUMP\nTEXT\n\
+    PROGRAM P\nVAR_EXTERNAL START, PUMP : BOOL; END_VAR\nPUMP := START;\nEND_PROGRAM\nENDTEXT\n\
+    SCHEDULE AABBCCAAA\nSCANS 1\nAT 1\nSET START 1 0 1\nEND\n";
+
+// The same where leg B shows its neighbours two faces.
+const TWO_FACES: &str = "TRICON 1\nPOINT DI START\nPOINT DO PUMP\nTEXT\n\
+    PROGRAM P\nVAR_EXTERNAL START, PUMP : BOOL; END_VAR\nPUMP := START;\nEND_PROGRAM\nENDTEXT\n\
+    SCANS 1\nAT 1\nSET START 1 0 0\nREAD B LEFT 1 100 1\nEND\n";
+
 fn text_of(alloc: Global, bytes: &str) -> Result<Text, NoMemory> {
     let mut text = Text::new(alloc);
     push_bytes(&mut text, bytes.as_bytes())?;
@@ -55,6 +70,33 @@ fn run(
 }
 
 #[test]
+fn a_matrix_is_written_as_its_program(rt: HostRuntime) -> Result<(), Fail> {
+    let matrix = |line, cause| Status::Refused {
+        line,
+        cause: RefusedCause::Matrix(cause),
+    };
+    let rows = [
+        (
+            "MATRIX 1\nCAUSE STOP LOW\nEFFECT HORN FOLLOW\nLINK STOP HORN\nEND\n",
+            Status::Done,
+            "PROGRAM MATRIX\nVAR_EXTERNAL\nSTOP : BOOL;\nHORN : BOOL;\nEND_VAR\n\
+            HORN := FALSE OR NOT STOP;\nEND_PROGRAM\n",
+        ),
+        (
+            "MATRIX 1\nCAUSE STOP LOW\nLINK STOP BELL\nEND\n",
+            matrix(3, MatrixCause::Unknown),
+            "",
+        ),
+    ];
+    for (text, want, taken) in rows {
+        let (status, sink) = run(rt.alloc(), &["matrix"], text, (0, 0))?;
+        assert_eq!(rt; status, want, "{text:?}");
+        assert_eq!(rt; sink.bytes(), taken.as_bytes(), "{text:?}");
+    }
+    Ok(())
+}
+
+#[test]
 fn a_script_is_played_and_checked(rt: HostRuntime) -> Result<(), Fail> {
     let rows: [(&[&str], &str); 3] = [
         (&["solo"], REPORT),
@@ -77,8 +119,37 @@ fn a_script_is_played_and_checked(rt: HostRuntime) -> Result<(), Fail> {
 }
 
 #[test]
+fn three_legs_step(rt: HostRuntime) -> Result<(), Fail> {
+    let rows = [
+        (
+            ONE_SCAN,
+            Status::Done,
+            "TRICON REPORT 1\nSCAN 1\nIN 100 1\nOUT 1\n\
+            LEG A AGREES\nLEG B AGREES\nLEG C AGREES\nALARMS 0 0 0 0\n\
+            HISTORY 0\nMARKS 0\n\
+            FINAL A RUN 0 1 1 1\nFINAL B RUN 0 1 1 1\nFINAL C RUN 0 1 1 1\nCALM YES\nEND\n",
+        ),
+        (STUCK, Status::Stuck { index: 9 }, ""),
+        (
+            TWO_FACES,
+            Status::DoneNotCalm { scan: 1 },
+            "TRICON REPORT 1\nSCAN 1\nIN 100 1\nOUT 0\n\
+            LEG A MINORITY\nLEG B ACCUSES A\nLEG C ACCUSES A\nALARMS 1 0 1 0\n\
+            HISTORY 3\n1 A MINORITY\n1 B ACCUSES A\n1 C ACCUSES A\nMARKS 0\n\
+            FINAL A LEARN 0\nFINAL B RUN 0 1 0 0\nFINAL C RUN 0 1 0 0\nCALM NO 1\nEND\n",
+        ),
+    ];
+    for (text, want, taken) in rows {
+        let (status, sink) = run(rt.alloc(), &["step"], text, (0, 0))?;
+        assert_eq!(rt; status, want, "{text:?}");
+        assert_eq!(rt; sink.bytes(), taken.as_bytes(), "{text:?}");
+    }
+    Ok(())
+}
+
+#[test]
 fn words_are_commands_or_none(rt: HostRuntime) -> Result<(), Fail> {
-    let rows: [&[&str]; 14] = [
+    let rows: [&[&str]; 16] = [
         &[],
         &[""],
         &["play"],
@@ -87,6 +158,8 @@ fn words_are_commands_or_none(rt: HostRuntime) -> Result<(), Fail> {
         &["solo", "solo"],
         &["solo", "summary", "summary"],
         &["check", "summary"],
+        &["step", "summary"],
+        &["matrix", "summary"],
         &["make"],
         &["make", "1"],
         &["make", "-0", "1"],
@@ -177,7 +250,8 @@ fn each_status_has_its_number_and_line(rt: HostRuntime) -> Result<(), Fail> {
         (
             Status::Usage,
             1,
-            "usage: tricon play [summary] | solo [summary] | step | check | make NUMBER SCANS\n",
+            "usage: tricon play [summary | events | modbus] | solo [summary] | step | check \
+            | matrix | make NUMBER SCANS\n",
         ),
         (script(ScriptCause::Second), 2, "refused: line 40: SECOND\n"),
         (
@@ -189,7 +263,9 @@ fn each_status_has_its_number_and_line(rt: HostRuntime) -> Result<(), Fail> {
         (Status::ReadFault, 3, "read fault\n"),
         (Status::WriteFault, 4, "write fault\n"),
         (Status::NoMemory, 5, "no memory\n"),
+        (Status::DoneNotCalm { scan: 12 }, 6, "not calm at scan 12\n"),
         (Status::ScriptTooLong, 7, "script too long\n"),
+        (Status::Stuck { index: 25 }, 8, "stuck at step 25\n"),
     ] {
         let mut text = Text::new(rt.alloc());
         status_line(rt.alloc(), &status, &mut text)?;
