@@ -256,6 +256,11 @@ module _ {P : Type 0} (After : P → (scan : ℕ) → Triple NoteData → P → 
         ∙ ((legs_played.in_step.fed fed y).number
         ∙ ((legs_played.in_step.ends fed y (legs_played.done y)).finished ∙ scans_same y x))
 
+    within : (x : Leg) → printed.number ≤ scans_of play x
+    within x =
+        let tape : length ts.a.leg.tape.scans ≡ scans_of play A = ap (λ (v : LegValue). length v.tape.scans) (starts A) in
+        omega (arith, printed.enough A, noted_limit, limit, tape, scans_same x A)
+
     pub scans_printed : HavePrinted After (m play.points) play (legs_of nows) old new
     scans_printed = record {
       number = printed.number;
@@ -263,6 +268,7 @@ module _ {P : Type 0} (After : P → (scan : ℕ) → Triple NoteData → P → 
       printed =
           printed_same After (notes_at told) (notes_in_step (m play.points) play) printed.number old new note_there
           printed.printed;
+      within = within;
       all = number_is;
     }
 

@@ -1,5 +1,5 @@
 -- Three legs that play over a bus while a printer is handed their notes, scan by scan. Own rule.
-use Rattle.std.specs.Prelude.{◌≡◌, ℕ, zero, suc, ◌-◌, List, [], slice_index_or}
+use Rattle.std.specs.Prelude.{◌≡◌, ℕ, zero, suc, ◌-◌, ◌≤◌, List, [], slice_index_or}
 use Rattle.tri_base.specs.declared.leg.Leg.{Leg}
 use Rattle.tri_base.specs.declared.leg.Leg.TheVariants.{A, B, C}
 use Rattle.tri_base.specs.declared.leg.Triple.{Triple}
@@ -39,13 +39,14 @@ pub record IsLeastNoted (n : ℕ) (legs : Leg → LegValue) : Type 0 where
   pub by_all : NotedByAll legs n
   pub by_one : (leg : Leg) × (noted (legs leg) ≡ n)
 
--- The printer was handed the notes of three legs in step, of each scan of which all three legs made a note. While none
--- is starved these are all scans of the play.
+-- The printer was handed the notes of three legs in step, of each scan of which all three legs made a note. They are
+-- scans of the play, and while no leg is starved all of them.
 pub record HavePrinted {P : Type 0} (After : P → (scan : ℕ) → Triple NoteData → P → Type 0) (m : Meaning)
     (play : Play) (legs : Triple LegValue) (old new : P) : Type 0 where
   pub number : ℕ
   pub least : IsLeastNoted number (leg_part legs)
   pub printed : IsPrinted After (notes_in_step m play) number old new
+  pub within : (leg : Leg) → number ≤ scans_of play leg
   pub all : NoneStarved (leg_part legs) → (leg : Leg) → number ≡ scans_of play leg
 
 -- Whatever play the three legs stood at the start of, they have played it to its end over the bus, and the printer was

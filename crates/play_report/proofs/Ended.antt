@@ -18,7 +18,7 @@ use Rattle.leg_laws.specs.InStep.{IsInStep, NoneStarved}
 use Rattle.leg_laws.specs.Plays.{play_of, scans_of}
 use Rattle.leg_laws.specs.Rounds.{after_scans, state_after}
 use Rattle.majority_laws.specs.Majority.{note_at}
-use Rattle.play_report.specs.Played.{HavePlayed}
+use Rattle.play_report.specs.Played.{HaveEnded, HavePlayed}
 use Rattle.play_report.specs.Starved.{some_starve}
 use Rattle.play_report.specs.Told.{note_of_scan}
 
@@ -40,16 +40,9 @@ front notes all scan away first none e =
 
 module _ (m : Meaning) (v : ScriptValue) (legs : Triple LegValue) (is : IsInStep m (play_of v) (leg_part legs))
     (fed : NoneStarved (leg_part legs)) (done : (leg : Leg) → need_of (leg_part legs leg) ≡ Done)
-    (given : (leg : Leg) → (leg_part legs leg).given ≡ 0)
     (points : (leg : Leg) → (leg_part legs leg).points ≡ v.points) where
   count : (leg : Leg) → noted (leg_part legs leg) ≡ v.scans
   count leg = (is.fed fed leg).number ∙ (is.ends fed leg (done leg)).finished ∙ scans_are v leg
-
-  note : (leg : Leg) (scan : ℕ) → 1 ≤ scan → scan ≤ v.scans
-      → note_of_scan (leg_part legs leg).notes scan ≡ note_at m v scan leg
-  note leg scan first last =
-      front (leg_part legs leg).notes (after_scans m (play_of v) leg scan).notes scan (leg_part legs leg).given first
-      (given leg) (is.early scan (λ (x : Leg). omega (arith, count x, last)) leg)
 
   marks : (leg : Leg) → (leg_part legs leg).marks ≡ (after_scans m (play_of v) leg v.scans).marks
   marks leg =
@@ -64,16 +57,28 @@ module _ (m : Meaning) (v : ScriptValue) (legs : Triple LegValue) (is : IsInStep
       (is.ends fed leg (done leg)).ending
       ∙ ap (λ (n : ℕ). Some (state_ending (state_after m (play_of v) n leg))) (scans_are v leg)
 
-  pub have_played : HavePlayed m v legs
-  have_played = record {
-    count_a = omega (arith, count A, given A);
-    count_b = omega (arith, count B, given B);
-    count_c = omega (arith, count C, given C);
-    notes = note;
+  pub have_ended : HaveEnded m v legs
+  have_ended = record {
     inputs = record { a = inputs A; b = inputs B; c = inputs C };
     tables = λ i. record { a = marks A i; b = marks B i; c = marks C i };
     ends = record { a = ending A; b = ending B; c = ending C };
   }
+
+  module _ (given : (leg : Leg) → (leg_part legs leg).given ≡ 0) where
+    note : (leg : Leg) (scan : ℕ) → 1 ≤ scan → scan ≤ v.scans
+        → note_of_scan (leg_part legs leg).notes scan ≡ note_at m v scan leg
+    note leg scan first last =
+        front (leg_part legs leg).notes (after_scans m (play_of v) leg scan).notes scan (leg_part legs leg).given first
+        (given leg) (is.early scan (λ (x : Leg). omega (arith, count x, last)) leg)
+
+    pub have_played : HavePlayed m v legs
+    have_played = record {
+      count_a = omega (arith, count A, given A);
+      count_b = omega (arith, count B, given B);
+      count_c = omega (arith, count C, given C);
+      notes = note;
+      ended = have_ended;
+    }
 
 none_of : (legs : Triple LegValue) (a b c : Bool) → is_starved legs.a ≡ a → is_starved legs.b ≡ b → is_starved legs.c ≡ c
     → (a || (b || c)) ≡ false → NoneStarved (leg_part legs)

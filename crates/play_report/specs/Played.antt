@@ -12,13 +12,17 @@ use Rattle.play_report.specs.LegsReport.{endings_of, tables_of}
 use Rattle.play_report.specs.Tables.{EndSo, HaveInputs, tables_in}
 use Rattle.play_report.specs.Told.{note_of_scan}
 
--- They have a note of each scan, and notes, marks and endings are those of three legs in step.
+-- They have ended with the inputs, marks and endings of three legs in step, whatever notes are left with them.
+pub record HaveEnded (m : Meaning) (v : ScriptValue) (legs : Triple LegValue) : Type 0 where
+  pub inputs : HaveInputs (length (inputs_of v.points)) legs
+  pub tables : tables_in legs ≡ tables_of m v
+  pub ends : EndSo legs (endings_of m v)
+
+-- They have ended, and have a note of each scan, which is that of three legs in step.
 pub record HavePlayed (m : Meaning) (v : ScriptValue) (legs : Triple LegValue) : Type 0 where
   pub count_a : v.scans ≤ length legs.a.notes
   pub count_b : v.scans ≤ length legs.b.notes
   pub count_c : v.scans ≤ length legs.c.notes
   pub notes : (leg : Leg) (scan : ℕ) → 1 ≤ scan → scan ≤ v.scans
       → note_of_scan (leg_part legs leg).notes scan ≡ note_at m v scan leg
-  pub inputs : HaveInputs (length (inputs_of v.points)) legs
-  pub tables : tables_in legs ≡ tables_of m v
-  pub ends : EndSo legs (endings_of m v)
+  pub ended : HaveEnded m v legs

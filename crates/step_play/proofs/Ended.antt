@@ -54,8 +54,8 @@ ended m v u w r more done fed =
     let none_u : NoneStarved (leg_part u.legs) = λ (x : Leg). before x in (
       goes m 1 v.schedule start u r none_u,
       have_played (m v.points) v w.legs (scripts_stay_in_step m v steps w all) (none_starves w.legs fed) (each_done w done)
-          (λ (x : Leg). reach_given m steps start w x all ∙ start_given (m v.points) (play_of v) x)
-          (λ (x : Leg). reach_points m steps start w x all ∙ start_points (m v.points) (play_of v) x),
+          (λ (x : Leg). reach_points m steps start w x all ∙ start_points (m v.points) (play_of v) x)
+          (λ (x : Leg). reach_given m steps start w x all ∙ start_given (m v.points) (play_of v) x),
     )
   where
     before : (x : Leg) → is_starved (leg_part u.legs x) ≡ false

@@ -29,5 +29,5 @@ pub ended : (m : List Point → Meaning) (v : ScriptValue) (was now : Triple Leg
 ended m v was now bus start over fed =
     let h = over.played (play_of v) (equal_tapes v) start in
     have_played (m v.points) v now h.in_step (none_starves now fed) h.done
-    (λ (x : Leg). over.notes x ∙ given_at_start (m v.points) v was start x)
     (λ (x : Leg). (h.follows x).points)
+    (λ (x : Leg). over.notes x ∙ given_at_start (m v.points) v was start x)

@@ -20,5 +20,5 @@ returns g c =
     subst (λ (l : List ℕ). OnOk c.write_ending.result (c.write_ending.new.text.list ≡ l))
     (whole m v c.args.uncalm c.args.text.now.list c.write_head.new.text.list c.write_scans.new.text.list c.chassis-2.result.now
     c.args.legs.now c.write_scans.new.teller _ c.chassis-2.ensures c.in_ok-write_head.ensures.text c.in_ok-write_scans.ensures.text
-    c.in_ok-write_scans.ensures.history told c.requires.tables)
-    (c.write_ending.ensures.text (endings_of m v) c.requires.ends)
+    c.in_ok-write_scans.ensures.history told c.requires.ended.tables)
+    (c.write_ending.ensures.text (endings_of m v) c.requires.ended.ends)
