@@ -9,3 +9,4 @@ mod Joined
 mod Headline
 mod Outcomes
 mod Unspelled
+mod Written

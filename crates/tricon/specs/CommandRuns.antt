@@ -32,7 +32,8 @@ stream before after faults_before faults_after =
 abbrev pub Failed : Stream → Type 0
 Failed s = Rose s.faults_before s.faults_after
 
--- The source was read to its end, and something was written of what the command makes of its bytes.
+-- The source was read to its end, and something was written of what the command makes of its bytes, which are no more
+-- than the limit.
 pub record Writes
     (command : Command)
     (uncalm : Option ℕ)
@@ -42,13 +43,15 @@ pub record Writes
   pub bytes : List ℕ
   pub output : List ℕ
   pub read : TakesAll source.before source.after bytes
+  pub short : length bytes ≤ script_limit
   pub is : IsOutput command bytes uncalm output
   pub written : puts sink.before sink.after output
 
--- The source was read to its end, and of its bytes this holds.
+-- The source was read to its end, and of its bytes, which are no more than the limit, this holds.
 pub record Refuses (source : Stream) (bytes_are : List ℕ → Type 0) : Type 0 where
   pub bytes : List ℕ
   pub read : TakesAll source.before source.after bytes
+  pub short : length bytes ≤ script_limit
   pub is : bytes_are bytes
 
 -- Not all of what the command makes of the bytes was written, and the sink failed.

@@ -15,7 +15,7 @@ use tri_io::{Sink, Source};
 /// Does what the words ask: those after the program's name. `solo`, `solo summary`, `check`
 /// and `step` read a script from the source and write what they make of it; `matrix` reads a cause
 /// and effect matrix and writes its program; `make NUMBER SCANS` writes a generated script and
-/// reads nothing.
+/// reads nothing. Words that begin with `play` are no command here: `station` takes them.
 ///
 /// Nothing is written before all is made, and then it goes out in pieces of 4,096 bytes.
 pub fn desk<S: Source, K: Sink>(

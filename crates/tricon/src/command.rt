@@ -2,9 +2,9 @@ ghost use Rattle.std.specs.Prelude.{◌≡◌, ◌≢◌, Some};
 ghost use Rattle.script_commands.specs.declared.script_command.PlayCommand.{PlayCommand};
 ghost use Rattle.script_commands.specs.declared.script_command.ScriptCommand.TheVariants.{Single, Play};
 ghost use Rattle.tricon.specs.declared.command.Command.TheVariants.{Script};
-ghost use Rattle.tricon.specs.Commands.{bytes_of, command_of, one_word, two_words, make_of, number_within};
+ghost use Rattle.tricon.specs.Commands.{bytes_of, command_of, one_word, two_words, make_of, number_within, play_of, play_word};
 
-use script_commands::{ScriptCommand, SingleCommand};
+use script_commands::{PlayCommand, ScriptCommand, SingleCommand};
 use tri_base::{SCAN_LIMIT, Text, read_number};
 
 /// What the program is asked to do.
@@ -23,7 +23,33 @@ pub enum Command {
     },
 }
 
-/// The command that words are, or None.
+/// The play that words ask for, or None.
+pub(crate) fn read_play(words: &[Text]) -> Option<PlayCommand>
+    ensures { result ≡ play_of (bytes_of words.now) }
+{
+    match words {
+        [word] if word.bytes() == b"play".as_slice() => Some(PlayCommand::Report),
+        [word, second] if word.bytes() == b"play".as_slice() => read_play_word(second.bytes()),
+        _ => None,
+    }
+}
+
+/// The play that the second word names.
+fn read_play_word(word: &[u8]) -> Option<PlayCommand>
+    ensures { result ≡ play_word word.now }
+{
+    if word == b"summary".as_slice() {
+        Some(PlayCommand::Summary)
+    } else if word == b"events".as_slice() {
+        Some(PlayCommand::Events)
+    } else if word == b"modbus".as_slice() {
+        Some(PlayCommand::Modbus)
+    } else {
+        None
+    }
+}
+
+/// The command that words are for the desk, or None.
 pub(crate) fn read_command(words: &[Text]) -> Option<Command>
     ensures command { result ≡ command_of (bytes_of words.now) }
     ensures no_play { (play : PlayCommand) → result ≢ Some (Script (Play play)) }

@@ -115,7 +115,7 @@ impl Player for MatrixPlayer {
 }
 
 // The script that a text spells, or the status that tells its first fault.
-fn script_of(alloc: Global, text: &Text) -> Result<Script, Status>
+pub(crate) fn script_of(alloc: Global, text: &Text) -> Result<Script, Status>
     requires { length text.now.list ≤ script_limit }
     ensures { IsScriptOf text.now.list result }
 {
@@ -134,7 +134,7 @@ fn script_of(alloc: Global, text: &Text) -> Result<Script, Status>
 }
 
 // What a text comes to, where it spells a script, and this is what a command made of the script.
-fn told(
+pub(crate) fn told(
     command: ScriptCommand,
     text: &Text,
     script: &Script,
@@ -159,7 +159,7 @@ fn told(
 }
 
 // An engine over a script's points.
-fn engine_for(alloc: Global, script: &Script) -> Result<StEngine, NoMemory>
+pub(crate) fn engine_for(alloc: Global, script: &Script) -> Result<StEngine, NoMemory>
     ensures { IfOk result
         (λ engine. ⟦<StEngine as Engine>⟧.points engine ≡ script.now.value.points) }
 {
@@ -167,7 +167,7 @@ fn engine_for(alloc: Global, script: &Script) -> Result<StEngine, NoMemory>
 }
 
 // An engine for each leg.
-fn engines_for(alloc: Global, script: &Script) -> Result<Triple<StEngine>, NoMemory>
+pub(crate) fn engines_for(alloc: Global, script: &Script) -> Result<Triple<StEngine>, NoMemory>
     ensures a { IfOk result
         (λ e. ⟦<StEngine as Engine>⟧.points e.a ≡ script.now.value.points) }
     ensures b { IfOk result

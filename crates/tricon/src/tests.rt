@@ -2,8 +2,9 @@ use super::*;
 use chassis::ChassisFault;
 use engine_face::Refusal;
 use std::alloc::Global;
+use std::sync::atomic::{AtomicU64, Ordering};
 use std::test::Fail;
-use tri_base::{Name, NoMemory, Text, TypeCause, TypeFault, push_bytes};
+use tri_base::{Leg, Name, NoMemory, Text, TypeCause, TypeFault, push_bytes};
 use tri_io::{MemorySink, MemorySource};
 
 // A pump that counts its starts. In scan 2 its program is changed; in scan 3 the change is refused.
@@ -28,6 +29,11 @@ const REPORT: &str = "TRICON SOLO 1\n\
 const ONE_SCAN: &str = "TRICON 1\nPOINT DI START\nPOINT DO PUMP\nTEXT\n\
     PROGRAM P\nVAR_EXTERNAL START, PUMP : BOOL; END_VAR\nPUMP := START;\nEND_PROGRAM\nENDTEXT\n\
     SCHEDULE AB\nSCHEDULE BACC\nSCANS 1\nAT 1\nSET START 1 0 1\nEND\n";
+
+// What three legs report of it.
+const LEGS_REPORT: &str = "TRICON REPORT 1\nSCAN 1\nIN 100 1\nOUT 1\n\
+    LEG A AGREES\nLEG B AGREES\nLEG C AGREES\nALARMS 0 0 0 0\nHISTORY 0\nMARKS 0\n\
+    FINAL A RUN 0 1 1 1\nFINAL B RUN 0 1 1 1\nFINAL C RUN 0 1 1 1\nCALM YES\nEND\n";
 
 // The same where leg A puts a third packet before the second is taken.
 const STUCK: &str = "TRICON 1\nPOINT DI START\nPOINT DO PUMP\nTEXT\n\
@@ -121,14 +127,7 @@ fn a_script_is_played_and_checked(rt: HostRuntime) -> Result<(), Fail> {
 #[test]
 fn three_legs_step(rt: HostRuntime) -> Result<(), Fail> {
     let rows = [
-        (
-            ONE_SCAN,
-            Status::Done,
-            "TRICON REPORT 1\nSCAN 1\nIN 100 1\nOUT 1\n\
-            LEG A AGREES\nLEG B AGREES\nLEG C AGREES\nALARMS 0 0 0 0\n\
-            HISTORY 0\nMARKS 0\n\
-            FINAL A RUN 0 1 1 1\nFINAL B RUN 0 1 1 1\nFINAL C RUN 0 1 1 1\nCALM YES\nEND\n",
-        ),
+        (ONE_SCAN, Status::Done, LEGS_REPORT),
         (STUCK, Status::Stuck { index: 9 }, ""),
         (
             TWO_FACES,
@@ -143,6 +142,108 @@ fn three_legs_step(rt: HostRuntime) -> Result<(), Fail> {
         let (status, sink) = run(rt.alloc(), &["step"], text, (0, 0))?;
         assert_eq!(rt; status, want, "{text:?}");
         assert_eq!(rt; sink.bytes(), taken.as_bytes(), "{text:?}");
+    }
+    Ok(())
+}
+
+/// A gate that lets nobody pass before three have come, but asks at most `TURNS` times.
+#[derive(Drop)]
+struct Meeting {
+    came_a: AtomicU64,
+    came_b: AtomicU64,
+    came_c: AtomicU64,
+    missed: AtomicU64,
+}
+
+const TURNS: u64 = 10_000_000;
+
+impl Meeting {
+    fn new() -> Meeting {
+        Meeting {
+            came_a: AtomicU64::new(0),
+            came_b: AtomicU64::new(0),
+            came_c: AtomicU64::new(0),
+            missed: AtomicU64::new(0),
+        }
+    }
+
+    fn of(&self, leg: Leg) -> &AtomicU64 {
+        match leg {
+            Leg::A => &self.came_a,
+            Leg::B => &self.came_b,
+            Leg::C => &self.came_c,
+        }
+    }
+
+    fn have_all_come(&self) -> bool {
+        self.came_a.load(Ordering::SeqCst) > 0
+            && self.came_b.load(Ordering::SeqCst) > 0
+            && self.came_c.load(Ordering::SeqCst) > 0
+    }
+}
+
+impl Gate for Meeting {
+    fn pass(&self, leg: Leg, _scan: u32) {
+        self.of(leg).fetch_add(1, Ordering::SeqCst);
+        for _ in 0..TURNS {
+            if self.have_all_come() {
+                return;
+            }
+        }
+        self.missed.fetch_add(1, Ordering::SeqCst);
+    }
+}
+
+#[test]
+fn three_legs_play(rt: HostRuntime) -> Result<(), Fail> {
+    let rows: [(&[&str], u64, Status, &str); 5] = [
+        (&["play"], 0, Status::Done, LEGS_REPORT),
+        (
+            &["play"],
+            3,
+            Status::WriteFault,
+            "TRICON REPORT 1\nSCAN 1\nIN 100 1\n",
+        ),
+        (
+            &["play", "summary"],
+            0,
+            Status::Done,
+            "TRICON SUMMARY 1\nSCANS 1\nSUM 1\nALARMED 0\nCALM YES\nEND\n",
+        ),
+        (
+            &["play", "events"],
+            0,
+            Status::Done,
+            "TRICON EVENTS 1\n1 100 START 1\n1 100 PUMP 1\nLOST 0\nCALM YES\nEND\n",
+        ),
+        (
+            &["play", "modbus"],
+            0,
+            Status::Done,
+            "TRICON MODBUS 1\nCALM YES\nEND\n",
+        ),
+    ];
+    for (words, failing, want, taken) in rows {
+        let gate = Meeting::new();
+        let words = words_of(rt.alloc(), words)?;
+        let script = text_of(rt.alloc(), ONE_SCAN)?;
+        let mut source = MemorySource::new(script, 16, vec![in rt.alloc(); 0]?);
+        let mut sink = MemorySink::new(rt.alloc(), 16, vec![in rt.alloc(); failing]?);
+        sink.reserve(1000)?;
+        let status = station(
+            &rt,
+            rt.alloc(),
+            words.as_slice(),
+            &mut source,
+            &mut sink,
+            &gate,
+        );
+        assert_eq!(rt; status, want);
+        assert_eq!(rt; sink.bytes(), taken.as_bytes());
+        assert_eq!(rt; gate.came_a.load(Ordering::SeqCst), 1);
+        assert_eq!(rt; gate.came_b.load(Ordering::SeqCst), 1);
+        assert_eq!(rt; gate.came_c.load(Ordering::SeqCst), 1);
+        assert_eq!(rt; gate.missed.load(Ordering::SeqCst), 0);
     }
     Ok(())
 }

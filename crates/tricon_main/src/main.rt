@@ -5,16 +5,32 @@
 use std::env::Env;
 use std::process::ExitCode;
 use std::{env, io};
-use tri_base::{NoMemory, Text, push_bytes};
+use tri_base::{Leg, NoMemory, Text, push_bytes};
 use tri_io::{StdSink, StdSource};
-use tricon::{Status, desk, status_line};
+use tricon::{Gate, Status, station, status_line};
+
+// A gate through which each leg passes at once.
+#[derive(Drop)]
+struct OpenGate {}
+
+impl Gate for OpenGate {
+    fn pass(&self, _leg: Leg, _scan: u32) {}
+}
 
 fn main(rt: HostRuntime) -> ExitCode {
     let status = match read_words(&rt) {
         Ok(words) => {
             let mut source = StdSource::new(rt.stdin());
             let mut sink = StdSink::new(rt.stdout());
-            desk(rt.alloc(), words.as_slice(), &mut source, &mut sink)
+            let gate = OpenGate {};
+            station(
+                &rt,
+                rt.alloc(),
+                words.as_slice(),
+                &mut source,
+                &mut sink,
+                &gate,
+            )
         }
         Err(status) => status,
     };

@@ -54,6 +54,7 @@ may_print page = page.is_open && nat_lt page.scan page.scans
 abbrev pub note_at : List Told → (scan : ℕ) → NoteData
 note_at told scan = slice_index_or (notes_in told) (scan - 1) no_note
 
+-- the notes of a scan that were heard of three
 abbrev pub notes_at : Triple (End Told) → (scan : ℕ) → Triple NoteData
 notes_at told scan = record {
   a = note_at told.a.list scan;

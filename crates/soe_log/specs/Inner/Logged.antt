@@ -4,6 +4,7 @@ use Rattle.std.specs.Prelude.{ℕ, ◌+◌, ◌-◌, Bool, List, [], ◌∷◌, 
 use Rattle.soe_log.specs.declared.event.Event.{Event}
 use Rattle.soe_log.specs.Recording.{event_limit}
 
+-- The events that are kept, and how many were lost since.
 pub record LogData : Type 0 where
   pub events : List Event
   pub lost : ℕ
