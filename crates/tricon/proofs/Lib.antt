@@ -6,7 +6,9 @@ mod Runs
 mod Complete
 mod Words
 mod Joined
+mod Carried
 mod Headline
+mod Shown
 mod Outcomes
 mod Unspelled
 mod Written
