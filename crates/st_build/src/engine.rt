@@ -1,7 +1,8 @@
-ghost use Rattle.std.specs.Prelude.{◌≡◌};
+ghost use Rattle.std.specs.Prelude.{◌≡◌, IfOk};
 
 use crate::building::build_program;
 use crate::changing::{carry_words, change_refusal};
+use crate::marked_chassis::MarkedChassis;
 use crate::program::{StProgram, layout_over};
 use crate::scanning::scan_program;
 use chassis::Chassis;
@@ -12,15 +13,16 @@ use tri_base::{Name, NoMemory, Text, Touched, Words};
 /// The engine of Structured Text over the points of a chassis.
 #[derive(Drop)]
 pub struct StEngine {
-    chassis: Chassis,
+    points: MarkedChassis,
 }
 
 impl StEngine {
-    /// An engine over the points of a chassis. It takes no memory.
-    pub fn over(chassis: Chassis) -> StEngine
-        ensures { ⟦<StEngine as Engine>⟧.points result ≡ chassis }
+    /// An engine over the points of a chassis.
+    pub fn over(alloc: Global, chassis: Chassis) -> Result<StEngine, NoMemory>
+        ensures { IfOk result (λ engine. ⟦<StEngine as Engine>⟧.points engine ≡ chassis) }
     {
-        StEngine { chassis }
+        let points = MarkedChassis::of(alloc, chassis)?;
+        Ok(StEngine { points })
     }
 }
 
@@ -30,7 +32,7 @@ impl Engine for StEngine {
 
     type Program = StProgram;
 
-    ghost points = { λ engine. engine.chassis };
+    ghost points = { λ engine. engine.points.chassis };
 
     ghost text_of = { λ program. program.text };
 
@@ -39,7 +41,7 @@ impl Engine for StEngine {
     ghost lawful = { lawful };
 
     fn build(&self, alloc: Global, text: &Text) -> Result<StProgram, Refusal> {
-        build_program(alloc, &self.chassis, text)
+        build_program(alloc, &self.points.chassis, text)
     }
 
     fn change(
@@ -49,9 +51,9 @@ impl Engine for StEngine {
         text: &Text,
         renames: &[(Name, Name)],
     ) -> Result<StProgram, Refusal> {
-        let program = build_program(alloc, &self.chassis, text)?;
-        let old_layout = layout_over(&self.chassis, old);
-        let new_layout = layout_over(&self.chassis, &program);
+        let program = build_program(alloc, &self.points.chassis, text)?;
+        let old_layout = layout_over(&self.points.chassis, old);
+        let new_layout = layout_over(&self.points.chassis, &program);
         match change_refusal(old_layout, new_layout, renames) {
             Some(refusal) => Err(refusal),
             None => Ok(program),
@@ -63,11 +65,11 @@ impl Engine for StEngine {
     }
 
     fn word_count(&self, program: &StProgram) -> usize {
-        layout_over(&self.chassis, program).words()
+        layout_over(&self.points.chassis, program).words()
     }
 
     fn first(&self, alloc: Global, program: &StProgram) -> Result<Words, NoMemory> {
-        layout_over(&self.chassis, program).first(alloc)
+        layout_over(&self.points.chassis, program).first(alloc)
     }
 
     fn carry(
@@ -78,8 +80,8 @@ impl Engine for StEngine {
         renames: &[(Name, Name)],
         words: &Words,
     ) -> Result<Words, NoMemory> {
-        let old_layout = layout_over(&self.chassis, old);
-        let new_layout = layout_over(&self.chassis, new);
+        let old_layout = layout_over(&self.points.chassis, old);
+        let new_layout = layout_over(&self.points.chassis, new);
         carry_words(alloc, old_layout, new_layout, renames, words)
     }
 
@@ -93,7 +95,7 @@ impl Engine for StEngine {
         touched: &mut Touched,
     ) -> bool {
         scan_program(
-            &self.chassis,
+            &self.points,
             program,
             words,
             inputs.items(),

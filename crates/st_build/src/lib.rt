@@ -6,6 +6,7 @@ mod building;
 mod changing;
 mod engine;
 mod laws;
+mod marked_chassis;
 mod program;
 mod scanning;
 

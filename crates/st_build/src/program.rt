@@ -6,7 +6,7 @@ use chassis::Chassis;
 use scan_machine::Code;
 use std::marker::Model;
 use tag_layout::Layout;
-use tag_wiring::Wiring;
+use tag_wiring::{PointMark, Wiring};
 use tri_base::Text;
 
 /// A program that was built: its text, the layout of its tags, its code, and which words stand for
@@ -49,12 +49,12 @@ impl StProgram {
         &self.layout
     }
 
-    /// Lends the wiring, if it is one to the points of a chassis.
-    pub(crate) fn wiring_to(&self, chassis: &Chassis) -> Option<&Wiring>
+    /// Lends the wiring, if it is one to the points of a mark.
+    pub(crate) fn wiring_to(&self, mark: &PointMark) -> Option<&Wiring>
         ensures { IfSome result (λ wiring.
-            wiring.now ≡ record { points = chassis.now; tags = self.now.tags }) }
+            wiring.now ≡ record { points = mark.now; tags = self.now.tags }) }
     {
-        if self.wiring.is_over(chassis) {
+        if self.wiring.is_over(mark) {
             Some(&self.wiring)
         } else {
             None

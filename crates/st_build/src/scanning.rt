@@ -13,6 +13,7 @@ ghost use Rattle.tag_wiring.specs.PointWords.{AreDeclared, inputs_set, input_sto
 ghost use Rattle.st_build.specs.Building.{program_of, refusal_in, tags_at};
 ghost use Rattle.st_build.specs.Running.{running, scanned_by, stored_by};
 
+use crate::marked_chassis::MarkedChassis;
 use crate::program::StProgram;
 use chassis::Chassis;
 use scan_machine::{Code, Steps, run};
@@ -54,7 +55,7 @@ fn run_counted<L: Ledger>(
 
 /// Sets the inputs, runs the code and takes the outputs.
 fn run_scan(
-    chassis: &Chassis,
+    points: &MarkedChassis,
     program: &StProgram,
     words: &mut Words,
     inputs: &[i64],
@@ -63,27 +64,29 @@ fn run_scan(
     touched: &mut Touched,
 ) -> bool
     requires words { length words.old.list ≡ total_words program.now.tags }
-    requires inputs { length inputs.now ≡ length (inputs_of chassis.now) }
+    requires inputs { length inputs.now ≡ length (inputs_of points.now.chassis) }
     requires from { pos 0 ≤ℤ dt }
     requires to { dt ≤ℤ scan_time_limit }
-    requires room { HasRoom (length (outputs_of chassis.now)) outputs.old }
+    requires room { HasRoom (length (outputs_of points.now.chassis)) outputs.old }
     requires touched { total_words program.now.tags ≤ touched.old.size }
     ensures ran { let tags = program.now.tags in
         let before : Memory = record {
-          words = inputs_set chassis.now tags inputs.now words.old.list;
-          stores = input_stores chassis.now tags words.old.list;
+          words = inputs_set points.now.chassis tags inputs.now words.old.list;
+          stores = input_stores points.now.chassis tags words.old.list;
         } in
         let after : Memory = record { words = words.new.list; stores = touched.new.pairs } in
         (ran : Ran) × machine.Runs program.now.code.list dt before ran
         × (ran.memory ≡ after) × (ran.flag ≡ result) }
-    ensures outputs { outputs.new.list ≡ outputs_from chassis.now program.now.tags words.new.list }
+    ensures outputs { outputs.new.list
+        ≡ outputs_from points.now.chassis program.now.tags words.new.list }
     ensures length { length words.new.list ≡ length words.old.list }
     ensures size { touched.new.size ≡ touched.old.size }
     ensures words_room { words.new.spare ≡ words.old.spare }
     ensures outputs_room { KeepsRoom outputs.old outputs.new }
 {
+    let chassis = &points.chassis;
     let layout = program.layout();
-    let wiring = program.wiring_to(chassis);
+    let wiring = program.wiring_to(&points.mark);
     set_inputs(chassis, layout, wiring, inputs, words, touched);
     let flag = run_counted::<Brand>(Blank::new(1), program.code(), words, dt, touched);
     take_outputs(chassis, layout, wiring, words.items(), outputs);
@@ -140,7 +143,7 @@ fn take_outputs(
 
 /// A scan of what is a program over the points of a chassis.
 pub(crate) fn scan_program(
-    chassis: &Chassis,
+    points: &MarkedChassis,
     program: &StProgram,
     words: &mut Words,
     inputs: &[i64],
@@ -148,32 +151,36 @@ pub(crate) fn scan_program(
     outputs: &mut Words,
     touched: &mut Touched,
 ) -> bool
-    requires program { refusal_in (program_of chassis.now program.now.text) ≡ None }
-    requires words { let tags = tags_at chassis.now program.now.text in
+    requires program { refusal_in (program_of points.now.chassis program.now.text) ≡ None }
+    requires words { let tags = tags_at points.now.chassis program.now.text in
         length words.old.list ≡ total_words tags }
-    requires inputs { length inputs.now ≡ length (inputs_of chassis.now) }
+    requires inputs { length inputs.now ≡ length (inputs_of points.now.chassis) }
     requires from { pos 0 ≤ℤ dt }
     requires to { dt ≤ℤ scan_time_limit }
-    requires room { HasRoom (length (outputs_of chassis.now)) outputs.old }
-    requires touched { let tags = tags_at chassis.now program.now.text in
+    requires room { HasRoom (length (outputs_of points.now.chassis)) outputs.old }
+    requires touched { let tags = tags_at points.now.chassis program.now.text in
         total_words tags ≤ touched.old.size }
-    ensures words { let tree = running chassis.now (program_of chassis.now program.now.text) in
-        words.new.list ≡ (scanned_by chassis.now tree words.old.list inputs.now dt).words }
-    ensures outputs { let tree = running chassis.now (program_of chassis.now program.now.text) in
-        outputs.new.list ≡ (scanned_by chassis.now tree words.old.list inputs.now dt).outputs }
-    ensures flag { let tree = running chassis.now (program_of chassis.now program.now.text) in
-        result ≡ (scanned_by chassis.now tree words.old.list inputs.now dt).flag }
-    ensures stores { let tree = running chassis.now (program_of chassis.now program.now.text) in
-        touched.new.pairs ≡ stored_by chassis.now tree words.old.list inputs.now dt }
+    ensures words { let at = points.now.chassis in
+        let tree = running at (program_of at program.now.text) in
+        words.new.list ≡ (scanned_by at tree words.old.list inputs.now dt).words }
+    ensures outputs { let at = points.now.chassis in
+        let tree = running at (program_of at program.now.text) in
+        outputs.new.list ≡ (scanned_by at tree words.old.list inputs.now dt).outputs }
+    ensures flag { let at = points.now.chassis in
+        let tree = running at (program_of at program.now.text) in
+        result ≡ (scanned_by at tree words.old.list inputs.now dt).flag }
+    ensures stores { let at = points.now.chassis in
+        let tree = running at (program_of at program.now.text) in
+        touched.new.pairs ≡ stored_by at tree words.old.list inputs.now dt }
     ensures word_number { length words.new.list ≡ length words.old.list }
-    ensures output_number { length outputs.new.list ≡ length (outputs_of chassis.now) }
+    ensures output_number { length outputs.new.list ≡ length (outputs_of points.now.chassis) }
     ensures within { All (λ pair. pair.0 < length words.old.list) touched.new.pairs }
     ensures restores { restored touched.new.pairs words.new.list ≡ words.old.list }
     ensures size { touched.new.size ≡ touched.old.size }
     ensures words_room { words.new.spare ≡ words.old.spare }
     ensures outputs_room { KeepsRoom outputs.old outputs.new }
 {
-    let _points = chassis.points();
+    let _points = points.chassis.points();
     let _code = program.code();
-    run_scan(chassis, program, words, inputs, dt, outputs, touched)
+    run_scan(points, program, words, inputs, dt, outputs, touched)
 }

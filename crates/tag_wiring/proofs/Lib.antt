@@ -6,4 +6,5 @@ pub mod TellingStores
 pub mod Named
 pub mod Looping
 pub mod Wired
+pub mod Spelled
 pub mod ByName

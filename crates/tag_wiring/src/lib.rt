@@ -7,10 +7,11 @@ mod inputs;
 pub mod laws;
 mod names;
 mod outputs;
-mod points;
+mod point_mark;
 mod tables;
 mod wiring;
 
+pub use point_mark::PointMark;
 pub use wiring::Wiring;
 
 #[cfg(test)]

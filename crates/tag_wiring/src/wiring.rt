@@ -6,21 +6,21 @@ ghost use Rattle.tag_wiring.specs.PointWords.{AreDeclared, inputs_set, input_sto
 
 use crate::inputs::{note_words, set_words};
 use crate::outputs::{OutputWire, take_words};
-use crate::points::are_same;
+use crate::point_mark::PointMark;
 use crate::tables::{input_addresses, output_wires, told_addresses};
 use chassis::Chassis;
 use std::alloc::Global;
 use std::marker::Model;
 use std::snapshot::Snapshot;
 use tag_layout::Layout;
-use tri_base::{NoMemory, Point, Touched, Words};
+use tri_base::{NoMemory, Touched, Words};
 
 /// Which words of a program's memory stand for the points of a chassis. It stands for the points
 /// and the tags that the program declares.
 #[derive(Drop)]
 pub struct Wiring {
-    // The points that the addresses were looked up for.
-    points: Vec<Point>,
+    // Tells the points that the addresses were looked up for.
+    mark: PointMark,
     // And the tags. A snapshot has no bytes.
     tags: Snapshot<Layout>,
     // For each input point the address of its tag, if it is declared.
@@ -38,7 +38,7 @@ impl Model for Wiring {
 
     ghost use Rattle.tag_wiring.specs.Inner.Kept.{IsKept};
 
-    ghost view = { λ s. record { points = s.points.items; tags = s.tags.value } };
+    ghost view = { λ s. record { points = s.mark; tags = s.tags.value } };
 
     ghost invariant = { IsKept };
 }
@@ -49,14 +49,13 @@ impl Wiring {
         requires { AreDeclared layout.now }
         ensures { IfOk result (λ w. w ≡ record { points = chassis.now; tags = layout.now }) }
     {
-        let Ok(points) = Vec::from_slice(alloc, chassis.points()) else {
-            return Err(NoMemory);
-        };
-        let inputs = input_addresses(alloc, points.as_slice(), layout)?;
+        let mark = PointMark::of(alloc, chassis)?;
+        let points = chassis.points();
+        let inputs = input_addresses(alloc, points, layout)?;
         let told = told_addresses(alloc, chassis, layout)?;
-        let outputs = output_wires(alloc, points.as_slice(), layout)?;
+        let outputs = output_wires(alloc, points, layout)?;
         Ok(Wiring {
-            points,
+            mark,
             tags: Snapshot::of(layout),
             inputs,
             told,
@@ -64,11 +63,11 @@ impl Wiring {
         })
     }
 
-    /// Whether these are the points of a chassis. It compares them one by one.
-    pub fn is_over(&self, chassis: &Chassis) -> bool
-        ensures { IsTrue result ↔ (self.now.points ≡ chassis.now) }
+    /// Whether these are the points of a mark. It takes the time of comparing two texts.
+    pub fn is_over(&self, mark: &PointMark) -> bool
+        ensures { IsTrue result ↔ (self.now.points ≡ mark.now) }
     {
-        are_same(self.points.as_slice(), chassis.points())
+        self.mark.is_same(mark)
     }
 
     /// Sets the word of each declared input tag to the value of its point, and tells the stores in

@@ -1,6 +1,8 @@
 //! What makes an output of the bytes that a command reads.
 
 ghost use Rattle.std.specs.Prelude.{◌≡◌, ◌≤◌, Ok, IfOk, List, length, ℕ};
+ghost use Rattle.std.specs.List.{All};
+ghost use Rattle.chassis.specs.Ranges.{HoldsZero};
 ghost use Rattle.st_build.specs.StructuredText.{structured_text};
 ghost use Rattle.script_commands.specs.Playing.{IsPlayed};
 ghost use Rattle.tricon.specs.declared.command.Command.{Command};
@@ -160,10 +162,12 @@ pub(crate) fn told(
 
 // An engine over a script's points.
 pub(crate) fn engine_for(alloc: Global, script: &Script) -> Result<StEngine, NoMemory>
-    ensures { IfOk result
+    ensures points { IfOk result
         (λ engine. ⟦<StEngine as Engine>⟧.points engine ≡ script.now.value.points) }
+    ensures zeros { IfOk result
+        (λ engine. All HoldsZero (⟦<StEngine as Engine>⟧.points engine)) }
 {
-    Ok(StEngine::over(script.chassis().copy(alloc)?))
+    StEngine::over(alloc, script.chassis().copy(alloc)?)
 }
 
 // An engine for each leg.

@@ -4,6 +4,7 @@ use engine_face::Refusal;
 use std::alloc::Global;
 use std::sync::atomic::{AtomicU64, Ordering};
 use std::test::Fail;
+use std::thread::yield_now;
 use tri_base::{Leg, Name, NoMemory, Text, TypeCause, TypeFault, push_bytes};
 use tri_io::{MemorySink, MemorySource};
 
@@ -189,6 +190,7 @@ impl Gate for Meeting {
             if self.have_all_come() {
                 return;
             }
+            yield_now();
         }
         self.missed.fetch_add(1, Ordering::SeqCst);
     }

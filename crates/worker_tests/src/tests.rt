@@ -11,6 +11,7 @@ use play_report::start_legs;
 use std::alloc::Global;
 use std::sync::atomic::{AtomicU64, Ordering};
 use std::test::Fail;
+use std::thread::yield_now;
 use tri_base::{Leg, NoMemory, Text, Triple, push_bytes};
 
 const SCRIPT: &[u8] = b"TRICON 1\nTEXT\nX\nENDTEXT\nSCANS 40\nEND\n";
@@ -39,6 +40,7 @@ impl Gate for Held {
             if self.printed.load(Ordering::SeqCst) > 0 {
                 return;
             }
+            yield_now();
         }
         self.missed.fetch_add(1, Ordering::SeqCst);
     }

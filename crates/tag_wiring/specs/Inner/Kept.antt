@@ -12,8 +12,8 @@ use Rattle.tag_wiring.specs.declared.wiring.Wiring.TheInside.{Inside}
 
 -- The addresses are those of the points' tags.
 pub record IsKept (s : Inside) : Type 0 where
-  pub inputs : s.inputs.items ≡ map (λ (p : Point). address_for s.tags.value p.name) (inputs_of s.points.items)
-  pub told : s.told.items ≡ map (λ (t : Tag). tag_address s.tags.value t.name) (input_tags s.points.items s.tags.value)
-  pub outputs : s.outputs.items ≡ map (wire_of s.tags.value) (outputs_of s.points.items)
+  pub inputs : s.inputs.items ≡ map (λ (p : Point). address_for s.tags.value p.name) (inputs_of s.mark)
+  pub told : s.told.items ≡ map (λ (t : Tag). tag_address s.tags.value t.name) (input_tags s.mark s.tags.value)
+  pub outputs : s.outputs.items ≡ map (wire_of s.tags.value) (outputs_of s.mark)
   pub words : HaveWords s.tags.value
   pub apart : AreApart s.tags.value

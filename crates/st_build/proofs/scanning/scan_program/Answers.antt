@@ -8,16 +8,16 @@ use Rattle.st_build.proofs.scanning.scan_program.Goals as goal
 
 pub run_scan-requires-clause-words : goal.run_scan-requires-clause-words
 run_scan-requires-clause-words c =
-    c.requires.words ∙ ap total_words (sym (tags_known c.args.chassis.now c.args.program.now c.code-code.ensures.kept c.requires.program))
+    c.requires.words ∙ ap total_words (sym (tags_known c.args.points.now.chassis c.args.program.now c.code-code.ensures.kept c.requires.program))
 
 pub run_scan-requires-clause-touched : goal.run_scan-requires-clause-touched
 run_scan-requires-clause-touched c =
-    subst (λ (tags : List Tag). total_words tags ≤ c.args.touched.now.size) (sym (tags_known c.args.chassis.now c.args.program.now c.code-code.ensures.kept c.requires.program)) c.requires.touched
+    subst (λ (tags : List Tag). total_words tags ≤ c.args.touched.now.size) (sym (tags_known c.args.points.now.chassis c.args.program.now c.code-code.ensures.kept c.requires.program)) c.requires.touched
 
 pub returns-clause-words : goal.returns-clause-words
 returns-clause-words c =
     let fits : FitsSigned w64 c.args.dt = search rules in
-    let points = c.args.chassis.now in
+    let points = c.args.points.now.chassis in
     let p = c.args.program.now in
     let kept = c.code-code.ensures.kept in
     let words = c.args.words.now.list in
@@ -30,7 +30,7 @@ returns-clause-words c =
 pub returns-clause-outputs : goal.returns-clause-outputs
 returns-clause-outputs c =
     let fits : FitsSigned w64 c.args.dt = search rules in
-    let points = c.args.chassis.now in
+    let points = c.args.points.now.chassis in
     let p = c.args.program.now in
     let kept = c.code-code.ensures.kept in
     let words = c.args.words.now.list in
@@ -43,7 +43,7 @@ returns-clause-outputs c =
 pub returns-clause-flag : goal.returns-clause-flag
 returns-clause-flag c =
     let fits : FitsSigned w64 c.args.dt = search rules in
-    let points = c.args.chassis.now in
+    let points = c.args.points.now.chassis in
     let p = c.args.program.now in
     let kept = c.code-code.ensures.kept in
     let words = c.args.words.now.list in
@@ -56,7 +56,7 @@ returns-clause-flag c =
 pub returns-clause-stores : goal.returns-clause-stores
 returns-clause-stores c =
     let fits : FitsSigned w64 c.args.dt = search rules in
-    let points = c.args.chassis.now in
+    let points = c.args.points.now.chassis in
     let p = c.args.program.now in
     let kept = c.code-code.ensures.kept in
     let words = c.args.words.now.list in
@@ -69,7 +69,7 @@ returns-clause-stores c =
 pub returns-clause-output_number : goal.returns-clause-output_number
 returns-clause-output_number c =
     let fits : FitsSigned w64 c.args.dt = search rules in
-    let points = c.args.chassis.now in
+    let points = c.args.points.now.chassis in
     let p = c.args.program.now in
     let kept = c.code-code.ensures.kept in
     let words = c.args.words.now.list in
@@ -82,7 +82,7 @@ returns-clause-output_number c =
 pub returns-clause-within : goal.returns-clause-within
 returns-clause-within c =
     let fits : FitsSigned w64 c.args.dt = search rules in
-    let points = c.args.chassis.now in
+    let points = c.args.points.now.chassis in
     let p = c.args.program.now in
     let kept = c.code-code.ensures.kept in
     let words = c.args.words.now.list in
@@ -95,7 +95,7 @@ returns-clause-within c =
 pub returns-clause-restores : goal.returns-clause-restores
 returns-clause-restores c =
     let fits : FitsSigned w64 c.args.dt = search rules in
-    let points = c.args.chassis.now in
+    let points = c.args.points.now.chassis in
     let p = c.args.program.now in
     let kept = c.code-code.ensures.kept in
     let words = c.args.words.now.list in

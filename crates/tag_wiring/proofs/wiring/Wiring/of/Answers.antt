@@ -20,14 +20,13 @@ output_wires-requires c = have_words c.args.layout.now c.requires
 
 pub invariant_of-result : goal.invariant_of-result
 invariant_of-result c =
-    let points = sym c.in-Ok.ensures.items in
-    let lent = c.as_slice.ensures.value in
-    let again = c.as_slice-2.ensures.value in
-    let tags = sym c.of.ensures in
+    let points = sym c.in_ok-mark.ensures in
+    let lent = c.points-points.ensures.value ∙ points in
+    let tags = sym c.of-2.ensures in
     record {
       inputs = c.in_ok-inputs.ensures ∙ (λ i. map (λ (p : Point). address_for (tags i) p.name) (inputs_of (lent i)));
-      told = c.in_ok-told.ensures.told ∙ (λ i. map (λ (t : Tag). tag_address (tags i) t.name) (input_tags ((sym c.points.ensures.value ∙ points) i) (tags i)));
-      outputs = c.in_ok-outputs.ensures ∙ (λ i. map (wire_of (tags i)) (outputs_of (again i)));
+      told = c.in_ok-told.ensures.told ∙ (λ i. map (λ (t : Tag). tag_address (tags i) t.name) (input_tags (points i) (tags i)));
+      outputs = c.in_ok-outputs.ensures ∙ (λ i. map (wire_of (tags i)) (outputs_of (lent i)));
       words = subst HaveWords tags (have_words c.args.layout.now c.requires);
       apart = subst AreApart tags c.told_addresses.ensures.apart;
     }
